@@ -1,0 +1,1 @@
+// This crate has no code: it proves what a job that passed the checker promises the engine.

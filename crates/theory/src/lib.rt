@@ -1,0 +1,1 @@
+// This crate has no code: its definitions and theorems stand in specs/.

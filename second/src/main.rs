@@ -1,0 +1,186 @@
+//! The independent second program: checker, engine, serial run and session player written out
+//! from document 01 alone, and what compares other programs with it.
+
+mod arguments;
+mod assemble;
+mod checker;
+mod compare;
+mod counts;
+mod demands;
+mod disassemble;
+mod engine;
+mod field;
+mod generate;
+mod instruction;
+mod machine;
+mod papers;
+mod random;
+mod rule;
+mod serial;
+mod session;
+mod shrink;
+mod versions;
+mod words;
+mod work;
+
+#[cfg(test)]
+mod tests;
+
+use arguments::Arguments;
+use compare::{write_file, Comparison};
+use std::ffi::OsString;
+use std::io::{self, Read, Write};
+use std::path::PathBuf;
+use std::process::ExitCode;
+
+const USAGE: &str = "usage:
+  second play [--mutant NAME] < session.bin
+  second assemble < text > session.bin
+  second disassemble < session.bin > text
+  second verdicts < papers.txt
+  second generate-papers --seed S --count N > papers.txt
+  second generate --seed S --count N --out DIR
+  second compare --seed S --count N [--examples DIR] [--keep DIR] -- COMMAND ARGS..
+  second mutants --seed S --count N
+";
+
+/// What a sub-command answers: whether all is well, or why it could not be done.
+type Outcome = Result<bool, String>;
+
+fn main() -> ExitCode {
+    let words: Vec<OsString> = std::env::args_os().skip(1).collect();
+    let (name, rest) = match words.split_first() {
+        Some((name, rest)) => (name.to_string_lossy(), rest),
+        None => ("".into(), &words[..]),
+    };
+    let outcome = match name.as_ref() {
+        "play" => play(rest),
+        "assemble" => assemble(rest),
+        "disassemble" => disassemble(rest),
+        "verdicts" => verdicts(rest),
+        "generate-papers" => generate_papers(rest),
+        "generate" => generate(rest),
+        "compare" => compare(rest),
+        "mutants" => mutants(rest),
+        "" => Err(format!("no sub-command\n{USAGE}")),
+        other => Err(format!("`{other}` is no sub-command\n{USAGE}")),
+    };
+    match outcome {
+        Ok(true) => ExitCode::SUCCESS,
+        Ok(false) => ExitCode::FAILURE,
+        Err(why) => {
+            // If even this cannot be written, the status still tells.
+            let _ = writeln!(io::stderr(), "second: {}", why.trim_end());
+            ExitCode::from(2)
+        }
+    }
+}
+
+/// Standard input to the end.
+fn input() -> Result<Vec<u8>, String> {
+    let mut bytes = Vec::new();
+    let read = io::stdin().read_to_end(&mut bytes);
+    read.map_err(|error| format!("cannot read the input: {error}"))?;
+    Ok(bytes)
+}
+
+/// Puts bytes out at once.
+fn print(bytes: &[u8]) -> Result<(), String> {
+    let mut out = io::stdout();
+    let written = out.write_all(bytes).and_then(|()| out.flush());
+    written.map_err(|error| format!("cannot write the output: {error}"))
+}
+
+fn print_line(line: &str) -> Result<(), String> {
+    print(format!("{line}\n").as_bytes())
+}
+
+fn play(words: &[OsString]) -> Outcome {
+    let broken = Arguments::parse(words, &["--mutant"])?.mutant("--mutant")?;
+    print(session::play(&input()?, broken).as_bytes())?;
+    Ok(true)
+}
+
+fn assemble(words: &[OsString]) -> Outcome {
+    Arguments::parse(words, &[])?;
+    let text = input()?;
+    let bytes = words::text_of(&text).and_then(assemble::assemble);
+    print(&bytes.map_err(|complaint| complaint.to_string())?)?;
+    Ok(true)
+}
+
+fn disassemble(words: &[OsString]) -> Outcome {
+    Arguments::parse(words, &[])?;
+    print(disassemble::disassemble(&input()?).as_bytes())?;
+    Ok(true)
+}
+
+fn verdicts(words: &[OsString]) -> Outcome {
+    Arguments::parse(words, &[])?;
+    let text = input()?;
+    let papers = words::text_of(&text).and_then(papers::papers_from);
+    let papers = papers.map_err(|complaint| complaint.to_string())?;
+    let lines: String = papers
+        .iter()
+        .map(|paper| papers::verdict_line(paper))
+        .collect();
+    print(lines.as_bytes())?;
+    Ok(true)
+}
+
+fn generate_papers(words: &[OsString]) -> Outcome {
+    let arguments = Arguments::parse(words, &["--seed", "--count"])?;
+    let seed = arguments.number("--seed")?;
+    for item in 0..arguments.number("--count")? {
+        let paper = generate::paper::random_paper(seed, item);
+        let text = papers::paper_text(&paper);
+        print(format!("# paper {item} of seed {seed}\n{text}").as_bytes())?;
+    }
+    Ok(true)
+}
+
+fn generate(words: &[OsString]) -> Outcome {
+    let arguments = Arguments::parse(words, &["--seed", "--count", "--out"])?;
+    let seed = arguments.number("--seed")?;
+    let folder = arguments.path("--out").ok_or("`--out` is missing")?;
+    for item in 0..arguments.number("--count")? {
+        let session = generate::session::random_session(seed, item);
+        write_file(&folder.join(format!("{item:06}.bin")), &session)?;
+    }
+    Ok(true)
+}
+
+fn compare(words: &[OsString]) -> Outcome {
+    let known = ["--seed", "--count", "--examples", "--keep", "--"];
+    let arguments = Arguments::parse(words, &known)?;
+    let comparison = Comparison {
+        seed: arguments.number("--seed")?,
+        count: arguments.number("--count")?,
+        examples: arguments.path("--examples"),
+        keep: arguments.path("--keep").unwrap_or(PathBuf::from(".")),
+        command: arguments.command,
+    };
+    comparison.run(&mut print_line)
+}
+
+/// Counts, for each mutant, the sessions on which it prints something else.
+fn mutants(words: &[OsString]) -> Outcome {
+    let arguments = Arguments::parse(words, &["--seed", "--count"])?;
+    let (seed, count) = (arguments.number("--seed")?, arguments.number("--count")?);
+    let mut differences = [0; rule::MUTANTS.len()];
+    for item in 0..count {
+        let session = generate::session::random_session(seed, item);
+        let right = session::play(&session, None);
+        for (number, mutant) in differences.iter_mut().zip(rule::MUTANTS) {
+            *number += usize::from(session::play(&session, Some(mutant.breaks)) != right);
+        }
+    }
+    for (number, mutant) in differences.iter().zip(rule::MUTANTS) {
+        let (name, does) = (mutant.name, mutant.does);
+        print_line(&format!("{name} differs on {number} of {count}: {does}"))?;
+    }
+    let found = differences.iter().filter(|number| **number > 0).count();
+    let missed = differences.len() - found;
+    print_line(&format!("{found} passed, {missed} failed"))?;
+    Ok(missed == 0)
+}

@@ -1,0 +1,58 @@
+//! The tests: 01's own lines first, then what this program adds.
+
+mod comparison;
+mod edge;
+mod engine;
+mod errors;
+mod examples;
+mod faults;
+mod generators;
+mod machine;
+mod malformed;
+mod text_form;
+
+use crate::assemble::assemble;
+use crate::papers::verdict_line;
+use crate::rule::Rule;
+use crate::session::play;
+
+/// The bytes that a text assembles to.
+fn bytes(text: &str) -> Vec<u8> {
+    assemble(text).unwrap_or_else(|complaint| panic!("{complaint}\n{text}"))
+}
+
+/// What playing a session in the text form prints.
+fn played(text: &str) -> String {
+    play(&bytes(text), None)
+}
+
+/// What a mutant prints for it.
+fn played_by_mutant(text: &str, broken: Rule) -> String {
+    play(&bytes(text), Some(broken))
+}
+
+/// The checker's line for the paper that job texts make, instructions parted by commas.
+fn checked(jobs: &[&str]) -> String {
+    verdict_line(&paper(jobs))
+}
+
+/// The paper that job texts make.
+fn paper(jobs: &[&str]) -> Vec<u8> {
+    bytes(&job_lines(jobs))
+}
+
+/// The session of job texts with these turns, all cells 0.
+fn session(jobs: &[&str], turns: &str) -> String {
+    job_lines(jobs) + "turns " + turns
+}
+
+/// Job texts in the text form, a line for each instruction.
+fn job_lines(jobs: &[&str]) -> String {
+    let lines = |job: &&str| format!("job\n{}\n", job.replace(", ", "\n"));
+    jobs.iter().map(lines).collect()
+}
+
+/// Output lines parted by a slash, as 01 writes them.
+fn lines(told: &str) -> String {
+    told.split(" / ").map(|line| format!("{line}\n")).collect()
+}
