@@ -30,6 +30,12 @@ module _ {A : Type 0} where
   getD-firsts (suc n) d (x ∷ xs) zero h = refl
   getD-firsts (suc n) d (x ∷ xs) (suc k) h = getD-firsts n d xs k (omega arith)
 
+  -- what stands past the end does not matter before it
+  pub getD-any : (xs : List A) (k : ℕ) (d e : A) → k < length xs → getD xs k d ≡ getD xs k e
+  getD-any [] k d e h = absurd (omega arith)
+  getD-any (x ∷ xs) zero d e h = refl
+  getD-any (x ∷ xs) (suc k) d e h = getD-any xs k d e (omega arith)
+
   -- a list by its entries: those at the places below n
   abbrev pub tab : ℕ → (ℕ → A) → List A
   tab zero f = []

@@ -1,0 +1,316 @@
+-- The sizes: the tests stand in the definition's order, and in a loop what is left from here decides.
+use mathlib.Core.Path.{_≡_, refl, ap, sym, _∙_}
+use mathlib.Core.Bool.{Bool, true, false, not, _&&_}
+use mathlib.Core.List.{List, [], _∷_}
+use Prim.Native.Nat.{ℕ, zero, suc, _+_, _*_, _-_, _≤_, _<_}
+use native.Mathlib.Omega.{arith}
+use native.Mathlib.Numerals.{add-one}
+use native.Mathlib.Nat.{sub-zero}
+use lib.Dec.{leb, ltb}
+use lib.ListN.{getD}
+use borrow.Author.Tests.{lt-ltb, le-ltb, le-leb, lt-leb, leb-true, eq-eqb, ne-eqb, not-true, not-false}
+use Rattle.theory.specs.Lists.{getD-firsts}
+use Rattle.theory.specs.Engine.{blockFits}
+use Rattle.machine.specs.Instruction.{known, fits}
+use Rattle.machine.specs.Machine.{stopping, formed}
+use Rattle.machine.specs.View.{codeOf, noJob}
+use Rattle.machine.specs.declared.instruction.Instruction.{Instruction}
+use Rattle.machine.specs.declared.job.Job.{Job}
+use Rattle.machine.specs.declared.job.State.{State}
+use Rattle.turns.specs.View.{placeAt, place-low, place-past, markOf, noJournal, noVersions, noRead, noReads}
+use Rattle.turns.specs.Block.{noState, noCheckpoint, blockOf}
+use Rattle.turns.specs.Box.{limits, box}
+use Rattle.turns.specs.Sizes.{passes, instructionWithin, codeWithin, standsIn, entryWithin, entryWithinAt, journalWithin, versionWithinAt, versionsWithin, readWithin, risesFrom, readsWithin, markWithin, jobWithin, jobWithinAt, listed, block-is}
+use Rattle.turns.specs.declared.block.Entry.{Entry}
+use Rattle.turns.specs.declared.block.Journal.{Journal}
+use Rattle.turns.specs.declared.block.Versions.{Versions}
+use Rattle.turns.specs.declared.block.Read.{Read}
+use Rattle.turns.specs.declared.block.Reads.{Reads}
+use Rattle.turns.specs.declared.block.Checkpoint.{Checkpoint}
+use Rattle.turns.specs.declared.block.Block.{Block}
+
+-- ---- what a test in the code tells of the definition that it answers
+module _ (b x : Bool) (e : b ≡ x) where
+  pub failed : not b ≡ true → x ≡ false
+  failed t = sym e ∙ not-true b t
+
+  pub held : not b ≡ false → x ≡ true
+  held t = sym e ∙ not-false b t
+
+-- ---- place by place
+module _ (f : ℕ → Bool) (n k : ℕ) (R : Bool) (q : passes f k (n - k) ≡ R) where
+  less : k < n → suc (n - suc k) ≡ n - k
+  less l = omega arith
+
+  pub passes-stop : k < n → f k ≡ false → false ≡ R
+  unfolding passes
+  passes-stop l e = one (n - suc k) ∙ ap (passes f k) (less l) ∙ q
+    where
+      one : (m : ℕ) → false ≡ passes f k (suc m)
+      one m = rw e refl
+
+  pub passes-on : k < n → f k ≡ true → passes f (k + 1) (n - (k + 1)) ≡ R
+  unfolding passes
+  passes-on l e = rw (add-one k) (one (n - suc k) ∙ ap (passes f k) (less l) ∙ q)
+    where
+      one : (m : ℕ) → passes f (suc k) m ≡ passes f k (suc m)
+      one m = rw e refl
+
+  pub passes-end : n ≤ k → true ≡ R
+  unfolding passes
+  passes-end l = none (n - k) (omega arith) ∙ q
+    where
+      none : (m : ℕ) → m ≤ 0 → true ≡ passes f k m
+      none zero w = refl
+      none (suc m) w = absurd (omega arith)
+
+-- ---- the instructions
+module _ (n p : ℕ) (i : Instruction) where
+  pub instruction-unknown : known i ≡ false → false ≡ instructionWithin n p i
+  unfolding instructionWithin
+  instruction-unknown e = rw e refl
+
+  pub instruction-operand : (x : Bool) → known i ≡ true → x ≡ fits n p i → x ≡ instructionWithin n p i
+  unfolding instructionWithin
+  instruction-operand x e q = rw e q
+
+pub ruleset instruction-laws = (failed, held, instruction-unknown, instruction-operand)
+
+module _ (j : Job) where
+  pub code-long : 64 < j .size → false ≡ codeWithin j
+  unfolding codeWithin
+  code-long l = rw (lt-leb _ _ l) refl
+
+  pub code-start : j .size ≤ 64 → formed (codeOf j) (j .size) (j .size) ≡ codeWithin j
+  unfolding codeWithin
+  code-start l = rw (le-leb _ _ l) refl
+
+  module _ (p : ℕ) (q : formed (codeOf j) (j .size) p ≡ codeWithin j) where
+    formed-at : 0 < p → p ≤ j .size → formed (codeOf j) (j .size) p ≡ instructionWithin (j .size) (p - 1) (getD (j .code) (p - 1) stopping) && formed (codeOf j) (j .size) (p - 1)
+    unfolding formed instructionWithin
+    formed-at a l = go p a l
+      where
+        go : (p : ℕ) → 0 < p → p ≤ j .size → formed (codeOf j) (j .size) p ≡ known (getD (j .code) (p - 1) stopping) && fits (j .size) (p - 1) (getD (j .code) (p - 1) stopping) && formed (codeOf j) (j .size) (p - 1)
+        go zero a l = absurd (omega arith)
+        go (suc p) a l =
+            let s : suc p - 1 ≡ p = omega arith in
+            rw (s, getD-firsts (j .size) stopping (j .code) p (omega arith)) refl
+
+    pub code-stop : 0 < p → p ≤ j .size → instructionWithin (j .size) (p - 1) (getD (j .code) (p - 1) stopping) ≡ false → false ≡ codeWithin j
+    code-stop a l e = (rw e at (sym (formed-at a l))) ∙ q
+
+    pub code-on : 0 < p → p ≤ j .size → instructionWithin (j .size) (p - 1) (getD (j .code) (p - 1) stopping) ≡ true → formed (codeOf j) (j .size) (p - 1) ≡ codeWithin j
+    code-on a l e = (rw e at (sym (formed-at a l))) ∙ q
+
+    pub code-end : p ≤ 0 → true ≡ codeWithin j
+    unfolding formed
+    code-end l = go p l ∙ q
+      where
+        go : (p : ℕ) → p ≤ 0 → true ≡ formed (codeOf j) (j .size) p
+        go zero l = refl
+        go (suc p) l = absurd (omega arith)
+
+pub ruleset code-laws = (failed, held, code-long, code-start, code-stop, code-on, code-end)
+
+-- ---- the state
+module _ (n : ℕ) (s : State) where
+  pub stands-past : n ≤ s .place .0 → false ≡ standsIn n s
+  unfolding standsIn
+  stands-past l = rw (le-ltb _ _ l) refl
+
+  pub stands-there : s .place .0 < n → leb (s .stack .height) 16 ≡ standsIn n s
+  unfolding standsIn
+  stands-there l = rw (lt-ltb _ _ l) refl
+
+pub ruleset stands-laws = (stands-past, stands-there)
+
+-- ---- the journal and the versions
+pub entry-is : (e : Entry) → ltb (e .cell .0) 256 ≡ entryWithin e
+unfolding entryWithin
+entry-is e = refl
+
+module _ (j : Journal) where
+  pub journal-long : 8 < j .size → false ≡ journalWithin j
+  unfolding journalWithin
+  journal-long l = rw (lt-leb _ _ l) refl
+
+  pub journal-start : j .size ≤ 8 → passes (entryWithinAt j) 0 (j .size - 0) ≡ journalWithin j
+  unfolding journalWithin
+  journal-start l = rw (le-leb _ _ l, sub-zero) refl
+
+pub ruleset journal-laws = (failed, held, journal-long, journal-start, passes-stop, passes-on, passes-end)
+
+pub ruleset place-laws = (place-low, place-past)
+
+module _ (n : ℕ) (v : Versions) where
+  pub versions-start : passes (versionWithinAt n v) 0 (v .size - 0) ≡ versionsWithin n v
+  unfolding versionsWithin
+  versions-start = rw sub-zero refl
+
+  module _ (k p : ℕ) (q : passes (versionWithinAt n v) k (v .size - k) ≡ versionsWithin n v) (l : k < v .size) (e : p ≡ placeAt v k) where
+    pub versions-stop : n ≤ p → false ≡ versionsWithin n v
+    versions-stop m = passes-stop (versionWithinAt n v) (v .size) k (versionsWithin n v) q l (le-ltb _ _ (rw e at m))
+
+    pub versions-on : p < n → passes (versionWithinAt n v) (k + 1) (v .size - (k + 1)) ≡ versionsWithin n v
+    versions-on m = passes-on (versionWithinAt n v) (v .size) k (versionsWithin n v) q l (lt-ltb _ _ (rw e at m))
+
+pub ruleset versions-laws = (versions-start, versions-stop, versions-on, passes-end)
+
+-- ---- the reads
+module _ (n before i : ℕ) (r : Read) (c : Checkpoint) where
+  pub read-cell : 256 ≤ r .cell .0 → false ≡ readWithin n before i r c
+  unfolding readWithin
+  read-cell l = rw (le-ltb _ _ l) refl
+
+  module _ (l : r .cell .0 < 256) where
+    pub read-astray : standsIn n (c .state) ≡ false → false ≡ readWithin n before i r c
+    unfolding readWithin
+    read-astray e = rw (lt-ltb _ _ l, e) refl
+
+    module _ (e : standsIn n (c .state) ≡ true) where
+      pub read-listed : i < c .listed → false ≡ readWithin n before i r c
+      unfolding readWithin
+      read-listed m = rw (lt-ltb _ _ l, e, lt-leb _ _ m) refl
+
+      pub read-writes : c .listed ≤ i → leb before (c .writes) ≡ readWithin n before i r c
+      unfolding readWithin
+      read-writes m = rw (lt-ltb _ _ l, e, le-leb _ _ m) refl
+
+pub ruleset read-laws = (failed, held, read-cell, read-astray, read-listed, read-writes)
+
+module _ (n entries : ℕ) (rs : Reads) (cs : List Checkpoint) where
+  pub reads-long : 8 < rs .size → false ≡ readsWithin n entries rs (listed cs)
+  unfolding readsWithin
+  reads-long l = rw (lt-leb _ _ l) refl
+
+  pub reads-start : rs .size ≤ 8 → risesFrom n entries rs (listed cs) 0 0 (rs .size - 0) ≡ readsWithin n entries rs (listed cs)
+  unfolding readsWithin
+  reads-start l = rw (le-leb _ _ l, sub-zero) refl
+
+  module _ (before i : ℕ) (q : risesFrom n entries rs (listed cs) before i (rs .size - i) ≡ readsWithin n entries rs (listed cs)) where
+    rises-one : i < rs .size → readWithin n before i (getD (rs .reads) i noRead) (getD cs i noCheckpoint) && risesFrom n entries rs (listed cs) (getD cs i noCheckpoint .writes) (suc i) (rs .size - suc i)
+        ≡ readsWithin n entries rs (listed cs)
+    unfolding risesFrom
+    rises-one l = one (rs .size - suc i) ∙ ap (risesFrom n entries rs (listed cs) before i) (let w : suc (rs .size - suc i) ≡ rs .size - i = omega arith in w) ∙ q
+      where
+        one : (m : ℕ) → readWithin n before i (getD (rs .reads) i noRead) (getD cs i noCheckpoint) && risesFrom n entries rs (listed cs) (getD cs i noCheckpoint .writes) (suc i) m
+            ≡ risesFrom n entries rs (listed cs) before i (suc m)
+        one m = refl
+
+    pub reads-stop : i < rs .size → readWithin n before i (getD (rs .reads) i noRead) (getD cs i noCheckpoint) ≡ false → false ≡ readsWithin n entries rs (listed cs)
+    reads-stop l e = rw e at (rises-one l)
+
+    pub reads-on : i < rs .size → readWithin n before i (getD (rs .reads) i noRead) (getD cs i noCheckpoint) ≡ true
+        → risesFrom n entries rs (listed cs) (getD cs i noCheckpoint .writes) (i + 1) (rs .size - (i + 1)) ≡ readsWithin n entries rs (listed cs)
+    reads-on l e = rw (add-one i) (rw e at (rises-one l))
+
+    pub reads-end : rs .size ≤ i → leb before entries ≡ readsWithin n entries rs (listed cs)
+    unfolding risesFrom
+    reads-end l = none (rs .size - i) (omega arith) ∙ q
+      where
+        none : (m : ℕ) → m ≤ 0 → leb before entries ≡ risesFrom n entries rs (listed cs) before i m
+        none zero w = refl
+        none (suc m) w = absurd (omega arith)
+
+pub ruleset reads-laws = (failed, held, reads-long, reads-start, reads-stop, reads-on, reads-end)
+
+module _ (m n : ℕ) where
+  pub mark-none : m ≡ 255 → true ≡ markWithin m n
+  unfolding markWithin markOf
+  mark-none e = rw (eq-eqb m 255 e) refl
+
+  pub mark-some : (m ≡ 255 → ⊥) → ltb m n ≡ markWithin m n
+  unfolding markWithin markOf
+  mark-some e = rw (ne-eqb m 255 e) refl
+
+pub ruleset mark-laws = (mark-none, mark-some)
+
+-- ---- the job
+module _ (j : Job) (s : State) (jo : Journal) (v : Versions) (rs : Reads) (cs : List Checkpoint) where
+  pub job-code : codeWithin j ≡ false → false ≡ jobWithin j s jo v rs (listed cs)
+  unfolding jobWithin
+  job-code a = rw a refl
+
+  module _ (a : codeWithin j ≡ true) where
+    pub job-astray : standsIn (j .size) s ≡ false → false ≡ jobWithin j s jo v rs (listed cs)
+    unfolding jobWithin
+    job-astray b = rw (a, b) refl
+
+    module _ (b : standsIn (j .size) s ≡ true) where
+      pub job-journal : journalWithin jo ≡ false → false ≡ jobWithin j s jo v rs (listed cs)
+      unfolding jobWithin
+      job-journal c = rw (a, b, c) refl
+
+      module _ (c : journalWithin jo ≡ true) where
+        pub job-versions : versionsWithin (jo .size) v ≡ false → false ≡ jobWithin j s jo v rs (listed cs)
+        unfolding jobWithin
+        job-versions d = rw (a, b, c, d) refl
+
+        module _ (d : versionsWithin (jo .size) v ≡ true) where
+          pub job-reads : readsWithin (j .size) (jo .size) rs (listed cs) ≡ false → false ≡ jobWithin j s jo v rs (listed cs)
+          unfolding jobWithin
+          job-reads e = rw (a, b, c, d, e) refl
+
+          pub job-mark : (x : Bool) → readsWithin (j .size) (jo .size) rs (listed cs) ≡ true → x ≡ markWithin (rs .mark) (rs .size) → x ≡ jobWithin j s jo v rs (listed cs)
+          unfolding jobWithin
+          job-mark x e f = rw (a, b, c, d, e) f
+
+pub ruleset job-laws = (failed, held, job-code, job-astray, job-journal, job-versions, job-reads, job-mark)
+
+-- ---- the block
+-- only the checkpoints of listed reads count
+module _ (n entries : ℕ) (rs : Reads) (cs ds : ℕ → Checkpoint) (same : (i : ℕ) → i < 8 → cs i ≡ ds i) where
+  rises-same : (before i m : ℕ) → i + m ≤ 8 → risesFrom n entries rs cs before i m ≡ risesFrom n entries rs ds before i m
+  unfolding risesFrom
+  rises-same before i zero l = refl
+  rises-same before i (suc m) l = rw (same i (omega arith), rises-same (ds i .writes) (suc i) m (omega arith)) refl
+
+  reads-same : readsWithin n entries rs cs ≡ readsWithin n entries rs ds
+  unfolding readsWithin
+  reads-same = go (leb (rs .size) 8) refl
+    where
+      go : (t : Bool) → leb (rs .size) 8 ≡ t → t && risesFrom n entries rs cs 0 0 (rs .size) ≡ t && risesFrom n entries rs ds 0 0 (rs .size)
+      go true e = rises-same 0 0 (rs .size) (let w : rs .size ≤ 8 = leb-true (rs .size) 8 e in omega arith)
+      go false e = refl
+
+-- eight of a list's entries, from place a on
+module _ (cs : List Checkpoint) (a : ℕ) where
+  abbrev eight : List Checkpoint
+  eight =
+      getD cs a noCheckpoint ∷ getD cs (a + 1) noCheckpoint ∷ getD cs (a + 2) noCheckpoint ∷ getD cs (a + 3) noCheckpoint
+      ∷ getD cs (a + 4) noCheckpoint ∷ getD cs (a + 5) noCheckpoint ∷ getD cs (a + 6) noCheckpoint ∷ getD cs (a + 7) noCheckpoint ∷ []
+
+  eight-at : (i : ℕ) → i < 8 → getD eight i noCheckpoint ≡ getD cs (a + i) noCheckpoint
+  eight-at zero l = ap (λ (x : ℕ). getD cs x noCheckpoint) (let w : a ≡ a + 0 = omega arith in w)
+  eight-at (suc zero) l = refl
+  eight-at (suc (suc zero)) l = refl
+  eight-at (suc (suc (suc zero))) l = refl
+  eight-at (suc (suc (suc (suc zero)))) l = refl
+  eight-at (suc (suc (suc (suc (suc zero))))) l = refl
+  eight-at (suc (suc (suc (suc (suc (suc zero)))))) l = refl
+  eight-at (suc (suc (suc (suc (suc (suc (suc zero))))))) l = refl
+  eight-at (suc (suc (suc (suc (suc (suc (suc (suc i)))))))) l = absurd (omega arith)
+
+module _ (b : Block) where
+  pub block-many : 16 < b .count → false ≡ blockFits limits box (blockOf b)
+  block-many l = sym (block-is b ∙ rw (lt-leb _ _ l) refl)
+
+  pub block-start : b .count ≤ 16 → passes (jobWithinAt b) 0 (b .count - 0) ≡ blockFits limits box (blockOf b)
+  block-start l = sym (block-is b ∙ rw (le-leb _ _ l, sub-zero) refl)
+
+  module _ (k : ℕ) (x : Bool) (q : passes (jobWithinAt b) k (b .count - k) ≡ blockFits limits box (blockOf b)) (l : k < b .count)
+      (e : x ≡ jobWithin (getD (b .jobs) k noJob) (getD (b .states) k noState) (getD (b .journals) k noJournal) (getD (b .versions) k noVersions) (getD (b .reads) k noReads) (listed (eight (b .checkpoints) (8 * k)))) where
+    here : x ≡ jobWithinAt b k
+    unfolding jobWithin
+    here = e ∙ rw (reads-same (getD (b .jobs) k noJob .size) (getD (b .journals) k noJournal .size) (getD (b .reads) k noReads) (listed (eight (b .checkpoints) (8 * k))) _ (eight-at (b .checkpoints) (8 * k))) refl
+
+    pub block-stop : not x ≡ true → false ≡ blockFits limits box (blockOf b)
+    block-stop t = passes-stop (jobWithinAt b) (b .count) k _ q l (failed x _ here t)
+
+    pub block-on : not x ≡ false → passes (jobWithinAt b) (k + 1) (b .count - (k + 1)) ≡ blockFits limits box (blockOf b)
+    block-on t = passes-on (jobWithinAt b) (b .count) k _ q l (held x _ here t)
+
+  pub block-end : (k : ℕ) → b .count ≤ k → passes (jobWithinAt b) k (b .count - k) ≡ blockFits limits box (blockOf b) → true ≡ blockFits limits box (blockOf b)
+  block-end k l q = passes-end (jobWithinAt b) (b .count) k _ q l
+
+pub ruleset block-laws = (block-many, block-start, block-stop, block-on, block-end)

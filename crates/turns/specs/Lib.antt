@@ -1,0 +1,12 @@
+-- The box's own instance of the plain engine, and what the structs of the code stand for.
+pub mod Box
+pub mod View
+pub mod Marks
+pub mod Block
+pub mod Becomes
+pub mod Moves
+pub mod Turn
+pub mod SerialRun
+pub mod Alone
+pub mod Sizes
+pub mod Fitting

@@ -1,0 +1,115 @@
+-- What the structs of a block in work stand for. A count and an array stand for the list of the array's first entries; a count past the
+-- array's end shows in the list's length. Entries past a count stand for nothing.
+use mathlib.Core.Path.{_≡_, refl}
+use mathlib.Core.Bool.{cond}
+use mathlib.Core.Option.{Option, none, some}
+use mathlib.Core.List.{List, [], _∷_}
+use Prim.Native.Nat.{ℕ, zero, suc, _+_, _*_, _≤_, _<_}
+use lib.Dec.{eqb, ltb}
+use lib.ListN.{getD, drop}
+use borrow.Author.Tests.{lt-ltb, le-ltb}
+use Rattle.theory.specs.Lists.{tab}
+use Rattle.theory.specs.Engine as E
+use Rattle.machine.specs.Machine.{Running, stopping}
+use Rattle.machine.specs.View.{stateOf, codeOf, noJob}
+use Rattle.machine.specs.declared.counts.Cell.{Cell}
+use Rattle.machine.specs.declared.counts.Ticket.{Ticket}
+use Rattle.machine.specs.declared.job.State.{State}
+use Rattle.turns.specs.declared.block.Entry.{Entry}
+use Rattle.turns.specs.declared.block.Journal.{Journal}
+use Rattle.turns.specs.declared.block.Versions.{Versions}
+use Rattle.turns.specs.declared.block.Read.{Read}
+use Rattle.turns.specs.declared.block.Reads.{Reads}
+use Rattle.turns.specs.declared.block.Checkpoint.{Checkpoint}
+use Rattle.turns.specs.declared.block.Block.{Block}
+use Rattle.turns.specs.declared.journal.Found.{Found}
+use Rattle.turns.specs.declared.versions.Version.{Version}
+use Rattle.turns.specs.declared.versions.Shown.{Shown}
+use Rattle.turns.specs.declared.versions.Shown.the-variants.{Value, Nothing}
+use Rattle.turns.specs.declared.journal.Found.the-variants.{At, Nowhere}
+
+-- what an array holds past its end
+abbrev pub noEntry : Entry
+noEntry = record { cell = record { 0 = 0 }; value = 0 }
+
+abbrev pub entryOf : Entry → E.Entry
+entryOf e = record { cell = e .cell .0; value = e .value }
+
+-- the first n entries of a journal; all of them
+unfoldable pub entriesOf : ℕ → Journal → List E.Entry
+entriesOf n j = tab n (λ k. entryOf (getD (j .entries) k noEntry))
+
+abbrev pub journalOf : Journal → List E.Entry
+journalOf j = entriesOf (j .size) j
+
+-- the entry that the k-th version names; one past the array's end names nothing
+unfoldable pub placeAt : Versions → ℕ → ℕ
+placeAt v k = cond (ltb k 8) (getD (v .places) k 0) 255
+
+pub place-low : (v : Versions) (k : ℕ) → k < 8 → getD (v .places) k 0 ≡ placeAt v k
+unfolding placeAt
+place-low v k l = rw (lt-ltb k 8 l) refl
+
+pub place-past : (v : Versions) (k : ℕ) → 8 ≤ k → 255 ≡ placeAt v k
+unfolding placeAt
+place-past v k l = rw (le-ltb k 8 l) refl
+
+unfoldable pub versionsOf : Versions → List ℕ
+versionsOf v = tab (v .size) (placeAt v)
+
+unfoldable pub placeOf : Found → Option ℕ
+placeOf (At k) = some k
+placeOf Nowhere = none
+
+abbrev pub noJournal : Journal
+noJournal = record { entries = []; size = 0 }
+
+abbrev pub noVersions : Versions
+noVersions = record { places = []; size = 0 }
+
+-- versions that are few, and name entries of the journal
+pub record Showing (j : Journal) (v : Versions) : Type 0 where
+  pub entries : j .size ≤ 8
+  pub places : v .size ≤ 8
+  pub named : (k : ℕ) → k < v .size → getD (v .places) k 0 < j .size
+
+-- .. of the jobs at the places below n
+pub record ShowingBelow (js : List Journal) (vs : List Versions) (n : ℕ) : Type 0 where
+  pub showing : (k : ℕ) → k < n → Showing (getD js k noJournal) (getD vs k noVersions)
+
+-- the version of a cell that the job at place k shows
+unfoldable pub versionAt : List Journal → List Versions → ℕ → ℕ → Option ℕ
+versionAt js vs k c = E.valueAt (journalOf (getD js k noJournal)) (E.shownAt (journalOf (getD js k noJournal)) (versionsOf (getD vs k noVersions)) c)
+
+-- what a reader of a cell finds that has the jobs at the places below n below it
+unfoldable pub foundIn : List Journal → List Versions → ℕ → ℕ → ℕ → ℕ × ℕ
+foundIn js vs start c n = E.search start (λ k. versionAt js vs k c) n
+
+unfoldable pub valueOf : Shown → Option ℕ
+valueOf (Value v) = some v
+valueOf Nothing = none
+
+unfoldable pub versionOf : Version → ℕ × ℕ
+versionOf v = (v .source .0, v .value)
+
+-- the entry at place k as a version, if it is the last of its cell
+unfoldable pub lastOne : List E.Entry → ℕ → List ℕ
+lastOne j k = cond (E.writes? (drop (suc k) j) (getD j k E.noEntry .cell)) [] (k ∷ [])
+
+-- the version that names place v, if it stands before the n-th entry
+unfoldable pub keptOne : ℕ → ℕ → List ℕ
+keptOne n v = cond (ltb v n) (v ∷ []) []
+
+-- ---- marks
+unfoldable pub markOf : ℕ → Option ℕ
+markOf m = cond (eqb m 255) none (some m)
+
+unfoldable pub markByte : Option ℕ → ℕ
+markByte none = 255
+markByte (some m) = m
+
+abbrev pub noRead : Read
+noRead = record { cell = record { 0 = 0 }; source = record { 0 = 0 }; value = 0 }
+
+abbrev pub noReads : Reads
+noReads = record { reads = []; size = 0; mark = 0 }

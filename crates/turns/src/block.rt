@@ -1,0 +1,62 @@
+// A block in work, by value and in small parts, so that a turn moves only the parts that it touches.
+use machine::counts::Cell;
+use machine::counts::Ticket;
+use machine::job::Job;
+use machine::job::State;
+
+// A write of a value to a cell.
+pub struct Entry {
+    pub cell: Cell,
+    pub value: u64,
+}
+
+// The writes of a job, in order.
+pub struct Journal {
+    pub entries: [Entry; 8],
+    pub size: u8,
+}
+
+// The public versions of a job: each is the place of its journal entry.
+pub struct Versions {
+    pub places: [u8; 8],
+    pub size: u8,
+}
+
+pub struct Read {
+    pub cell: Cell,
+    pub source: Ticket,
+    pub value: u64,
+}
+
+// The listed reads of a job, and the earliest marked one.
+pub struct Reads {
+    pub reads: [Read; 8],
+    pub size: u8,
+    pub mark: u8,
+}
+
+impl Reads {
+    // The mark of a job that is marked nowhere.
+    pub const UNMARKED: u8 = 255;
+}
+
+// The job as it was before a listed read.
+pub struct Checkpoint {
+    pub state: State,
+    pub writes: u8,
+    pub listed: u8,
+}
+
+// Job k has ticket k + 1. Its checkpoints stand from 8 * k on, one for each listed read.
+// A job's status is 0 while it runs, 1 once it has ended, and 2 once it is final.
+pub struct Block {
+    pub start: [u64; 256],
+    pub count: u8,
+    pub jobs: [Job; 16],
+    pub states: [State; 16],
+    pub status: [u8; 16],
+    pub journals: [Journal; 16],
+    pub versions: [Versions; 16],
+    pub reads: [Reads; 16],
+    pub checkpoints: [Checkpoint; 128],
+}

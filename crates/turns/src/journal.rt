@@ -1,0 +1,51 @@
+// The journal of a job: the last entry for a cell, and one entry more.
+use crate::block::Entry;
+use crate::block::Journal;
+use machine::counts::Cell;
+ghost use mathlib.Core.Path.{_≡_};
+ghost use mathlib.Core.List.{_++_, _∷_, []};
+ghost use Prim.Native.Nat.{_≤_, _<_};
+ghost use lib.ListN.{getD};
+ghost use Rattle.theory.specs.Engine.{noEntry, lastAt};
+ghost use Rattle.turns.specs.View.{entryOf, journalOf, placeOf};
+
+// A place in a journal or in a list of reads, where there is one.
+pub enum Found {
+    At(u8),
+    Nowhere,
+}
+
+pub(crate) fn entry_at(j: Journal, place: u8) -> Entry
+    requires { ⌜ (j .size ≤ 8) × (place < j .size) ⌝ }
+    ensures { λ r. ⌜ entryOf r ≡ getD (journalOf j) place noEntry ⌝ }
+{
+    j.entries[place as usize]
+}
+
+// The place of the last entry for a cell.
+pub(crate) fn last_entry(j: Journal, c: Cell) -> Found
+    requires { ⌜ j .size ≤ 8 ⌝ }
+    ensures { λ r. ⌜ placeOf r ≡ lastAt (journalOf j) (c .0) ⌝ }
+{
+    let mut k = j.size;
+    while 0 < k {
+        let e = j.entries[(k - 1) as usize];
+        if e.cell.0 == c.0 {
+            return Found::At(k - 1);
+        }
+        k = k - 1;
+    }
+    Found::Nowhere
+}
+
+// One entry more.
+pub(crate) fn with_entry(j: Journal, e: Entry) -> Journal
+    requires { ⌜ j .size < 8 ⌝ }
+    ensures { λ r. ⌜ journalOf r ≡ journalOf j ++ (entryOf e ∷ []) ⌝ }
+{
+    let n = j.size;
+    let mut r = j;
+    r.entries[n as usize] = e;
+    r.size = n + 1;
+    r
+}

@@ -1,0 +1,9 @@
+// The engine: a block in work, its opening, its turns, the settled table, and the serial run.
+pub mod block;
+mod journal;
+mod marks;
+mod moves;
+pub mod serial;
+mod sizes;
+pub mod turn;
+mod versions;
