@@ -9,4 +9,5 @@ pub mod Solo
 pub mod Alone
 pub mod Serial
 pub mod Turn
+pub mod Open
 pub mod Sizes

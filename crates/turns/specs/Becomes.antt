@@ -1,11 +1,10 @@
 -- A block after one job's move, job by job; and that this is the plain engine's `changed`.
 use mathlib.Core.Path.{_≡_, refl, ap, sym, _∙_, fun-ext}
-use mathlib.Core.Option.{Option}
-use mathlib.Core.List.{List, [], _∷_, _++_, map}
-use Prim.Native.Nat.{ℕ, zero, suc, _+_, _-_, _≤_, _<_}
+use mathlib.Core.List.{_∷_, map}
+use Prim.Native.Nat.{ℕ, suc, _+_, _-_, _<_}
 use native.Mathlib.Omega.{arith}
 use native.Mathlib.Decide.{ℕ-discrete, decLt}
-use lib.ListN.{length, getD, take, drop, length-append, length-map, length-take, length-drop, List·getD-append, List·getD-map}
+use lib.ListN.{length, getD, take, drop, length-append, length-map, length-drop, List·getD-append, List·getD-map}
 use lib.Seq.{ext-getD, getD-take, getD-drop, getD-append-add, length-take-le}
 use Rattle.theory.specs.Lists.{tab, length-tab, getD-tab, getD-any}
 use Rattle.theory.specs.Engine as E

@@ -1,5 +1,5 @@
 -- What a block in work stands for: a plain block, job by job and read by read.
-use mathlib.Core.List.{List, [], _∷_}
+use mathlib.Core.List.{List, []}
 use Prim.Native.Nat.{ℕ, zero, suc, _+_, _*_}
 use lib.ListN.{getD}
 use Rattle.theory.specs.Lists.{tab}

@@ -8,5 +8,6 @@ pub mod Moves
 pub mod Turn
 pub mod SerialRun
 pub mod Alone
+pub mod Open
 pub mod Sizes
 pub mod Fitting

@@ -1,11 +1,11 @@
 -- What the moves of a job need to know of the block, and the read that is listed.
 use mathlib.Core.Path.{_≡_}
-use Prim.Native.Nat.{ℕ, suc, _+_, _≤_, _<_}
+use Prim.Native.Nat.{ℕ, _+_, _≤_}
 use lib.ListN.{length, getD, set}
 use Rattle.theory.specs.Engine as E
 use Rattle.machine.specs.Machine.{Running}
-use Rattle.turns.specs.View.{noJournal, noVersions, noRead, noReads, ShowingBelow}
-use Rattle.turns.specs.Block.{codeAt, noState, readOf, jobOf}
+use Rattle.turns.specs.View.{noJournal, noReads, ShowingBelow}
+use Rattle.turns.specs.Block.{codeAt, noState, readOf}
 use Rattle.turns.specs.Marks.{ListsFit}
 use Rattle.turns.specs.declared.block.Checkpoint.{Checkpoint}
 use Rattle.turns.specs.declared.block.Read.{Read}

@@ -6,7 +6,6 @@ use mathlib.Core.List.{List}
 use Prim.Native.Nat.{ℕ, zero, suc, _+_, _*_, _≤_, _<_}
 use lib.Dec.{eqb, leb, ltb}
 use lib.ListN.{length, getD}
-use Rattle.theory.specs.Lists.{tab}
 use Rattle.theory.specs.Word as W
 use Rattle.theory.specs.Promise.{read}
 use Rattle.theory.specs.Engine as E
@@ -15,7 +14,7 @@ use Rattle.machine.specs.Machine.{Running, given}
 use Rattle.machine.specs.View.{stateOf, noJob}
 use Rattle.machine.specs.declared.job.State.{State}
 use Rattle.turns.specs.Box.{box, limits}
-use Rattle.turns.specs.View.{entryOf, markOf, noRead, noReads, noJournal}
+use Rattle.turns.specs.View.{entryOf, noRead, noReads}
 use Rattle.turns.specs.Block.{codeAt, noState, noCheckpoint, runningOf, jobOf, blockOf}
 use Rattle.turns.specs.Moves.{Sized, Held}
 use Rattle.turns.specs.declared.block.Entry.{Entry}

@@ -4,24 +4,17 @@ use mathlib.Core.Path.{_≡_, refl}
 use mathlib.Core.Bool.{cond}
 use mathlib.Core.Option.{Option, none, some}
 use mathlib.Core.List.{List, [], _∷_}
-use Prim.Native.Nat.{ℕ, zero, suc, _+_, _*_, _≤_, _<_}
+use Prim.Native.Nat.{ℕ, suc, _≤_, _<_}
 use lib.Dec.{eqb, ltb}
 use lib.ListN.{getD, drop}
 use borrow.Author.Tests.{lt-ltb, le-ltb}
 use Rattle.theory.specs.Lists.{tab}
 use Rattle.theory.specs.Engine as E
-use Rattle.machine.specs.Machine.{Running, stopping}
-use Rattle.machine.specs.View.{stateOf, codeOf, noJob}
-use Rattle.machine.specs.declared.counts.Cell.{Cell}
-use Rattle.machine.specs.declared.counts.Ticket.{Ticket}
-use Rattle.machine.specs.declared.job.State.{State}
 use Rattle.turns.specs.declared.block.Entry.{Entry}
 use Rattle.turns.specs.declared.block.Journal.{Journal}
 use Rattle.turns.specs.declared.block.Versions.{Versions}
 use Rattle.turns.specs.declared.block.Read.{Read}
 use Rattle.turns.specs.declared.block.Reads.{Reads}
-use Rattle.turns.specs.declared.block.Checkpoint.{Checkpoint}
-use Rattle.turns.specs.declared.block.Block.{Block}
 use Rattle.turns.specs.declared.journal.Found.{Found}
 use Rattle.turns.specs.declared.versions.Version.{Version}
 use Rattle.turns.specs.declared.versions.Shown.{Shown}

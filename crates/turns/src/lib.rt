@@ -3,6 +3,7 @@ pub mod block;
 mod journal;
 mod marks;
 mod moves;
+pub mod open;
 pub mod serial;
 mod sizes;
 pub mod turn;

@@ -43,7 +43,7 @@ struct Alone {
     journal: Journal,
 }
 
-fn no_entries() -> Journal
+pub(crate) fn no_entries() -> Journal
     ensures { λ r. ⌜ journalOf r ≡ [] ⌝ }
 {
     let none = Entry {

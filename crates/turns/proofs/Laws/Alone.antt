@@ -2,9 +2,8 @@
 -- and each instruction keeps that the rest is the rest of the whole, with room in the journal for what may still be written.
 use mathlib.Core.Path.{_≡_, refl, ap, sym, subst, _∙_}
 use mathlib.Core.Bool.{Bool, true, false, not, cond, _&&_}
-use mathlib.Core.Option.{Option, none, some}
 use mathlib.Core.List.{List, [], _∷_, _++_}
-use Prim.Native.Nat.{ℕ, zero, suc, _+_, _-_, _≤_, _<_}
+use Prim.Native.Nat.{ℕ, suc, _+_, _≤_, _<_}
 use native.Mathlib.Omega.{arith}
 use lib.Dec.{eqb, leb, ltb}
 use lib.ListN.{length, getD, drop, length-append, length-drop}
@@ -12,7 +11,7 @@ use borrow.Author.Tests.{eqb-true, leb-true, le-leb, not-true, not-false}
 use Rattle.theory.specs.Lists.{length-firsts, getD-firsts}
 use Rattle.theory.specs.Promise.{Act, nothing, read, write, stop, abandon, stuck}
 use Rattle.theory.specs.Engine as E
-use Rattle.theory.specs.Engine.{lastAt, orElse, next}
+use Rattle.theory.specs.Engine.{lastAt}
 use Rattle.theory.specs.Serial.{over, solo, alone}
 use Rattle.machine.specs.Limits.{ROOM, CELLS}
 use Rattle.machine.specs.Instruction.{STOP, ABANDON, READ, WRITE}
@@ -38,6 +37,7 @@ use Rattle.turns.specs.declared.journal.Found.{Found}
 use Rattle.turns.specs.declared.journal.Found.the-variants.{At, Nowhere}
 use Rattle.turns.specs.declared.serial.Alone.{Alone}
 use Rattle.turns.proofs.Laws.Journal.{length-journal}
+use Rattle.turns.proofs.Laws.Own.{own-low}
 use Rattle.turns.proofs.Laws.Solo.{solo-stop, solo-abandon, rest-nothing, rest-read, rest-write}
 
 pub entries-none : (es : List Entry) → journalOf (record { entries = es; size = 0 }) ≡ []
@@ -45,21 +45,7 @@ unfolding entriesOf
 entries-none es = refl
 
 -- ---- what a job alone reads
--- a last entry is one of the journal
-last-low : (es : List E.Entry) (c p : ℕ) → lastAt es c ≡ some p → p < length es
-last-low [] c p e = absurd (let z : _≡_ {A = ℕ} 0 1 = cc in omega arith)
-last-low (x ∷ es) c p e = go (lastAt es c) (last-low es c) (eqb (x .cell) c) e
-  where
-    go : (o : Option ℕ) → ((q : ℕ) → o ≡ some q → q < length es) → (t : Bool) → orElse (next o) (cond t (some zero) none) ≡ some p → p < suc (length es)
-    go (some k) ih t q = let w : suc k ≡ p = cc in rw (← w) (omega (arith, ih k refl))
-    go none ih true q = let w : zero ≡ p = cc in rw (← w) (omega arith)
-    go none ih false q = absurd (let z : _≡_ {A = ℕ} 0 1 = cc in omega arith)
-
 module _ (j : Journal) (c : ℕ) (r : Found) (er : placeOf r ≡ lastAt (journalOf j) c) where
-  pub own-low : (p : ℕ) → r ≡ At p → p < j .size
-  unfolding placeOf
-  own-low p e = rw length-journal at (last-low (journalOf j) c p (sym er ∙ ap placeOf e))
-
   pub read-own : (table : List ℕ) (p : ℕ) (e : Entry) → r ≡ At p → entryOf e ≡ getD (journalOf j) p E.noEntry → e .value ≡ over (journalOf j) (cellsOf table) c
   unfolding placeOf
   read-own table p e q w = rw (← er, q, ← w) refl
@@ -117,7 +103,7 @@ module _ (job : Job) (T : ℕ → ℕ) (a : Alone) (e : a .ended ≡ false) (g :
       let z = leb-true n 64 (and-both (leb n 64) (formed (codeOf job) n n) (y .0) .0) in
       omega (arith, z, length-firsts (job .size) stopping (job .code))
 
-not-both : {A : Type 0} → false ≡ true → A
+pub not-both : {A : Type 0} → false ≡ true → A
 not-both q = absurd (let z : _≡_ {A = ℕ} 0 1 = cc in omega arith)
 
 all-more : {A : Type 0} {P : A → Type 0} {l : List A} {x : A} → All P l → P x → All P (l ++ (x ∷ []))

@@ -7,15 +7,13 @@ use Prim.Native.Nat.{ℕ, zero, suc, _+_, _-_, _≤_, _<_}
 use native.Mathlib.Omega.{arith}
 use native.Mathlib.Numerals.{add-one}
 use native.Mathlib.Nat.{sub-zero}
-use native.Mathlib.Decide.{ℕ-discrete}
-use lib.Dec.{eqb, leb, ltb}
-use lib.ListN.{length, getD, set, length-set}
-use lib.Seq.{getD-set-same, getD-set-other}
+use lib.Dec.{eqb, leb}
+use lib.ListN.{getD, set}
+use lib.Seq.{getD-set-other}
 use borrow.Author.Tests.{eq-eqb, ne-eqb, eqb-true, lt-ltb, le-ltb}
 use Rattle.theory.specs.Engine.{struck, earlier}
 use Rattle.turns.specs.View.{placeOf, markOf, markByte, noRead, noReads}
-use Rattle.turns.specs.Marks.{Shown, shownIn, struckBy, firstFrom, strikesAt, markBy, markReads, sweep, ListsFit}
-use Rattle.machine.specs.declared.counts.Ticket.{Ticket}
+use Rattle.turns.specs.Marks.{shownIn, struckBy, firstFrom, strikesAt, markBy, markReads, sweep, ListsFit}
 use Rattle.turns.specs.declared.block.Read.{Read}
 use Rattle.turns.specs.declared.block.Reads.{Reads}
 use Rattle.turns.specs.declared.journal.Found.{Found}

@@ -6,23 +6,23 @@ use mathlib.Core.List.{List, [], _∷_, _++_}
 use Prim.Native.Nat.{ℕ, zero, suc, _+_, _-_, _*_, _≤_, _<_}
 use native.Mathlib.Omega.{arith}
 use native.Mathlib.Numerals.{add-one}
-use native.Mathlib.Decide.{ℕ-discrete, decLt}
+use native.Mathlib.Decide.{ℕ-discrete}
 use lib.Dec.{eqb, ltb}
 use lib.ListN.{length, getD, take, drop, set, length-set, drop-of-length-le}
 use lib.Seq.{getD-set-same, getD-set-other}
-use borrow.Author.Tests.{eq-eqb, ne-eqb, eqb-false}
+use borrow.Author.Tests.{ne-eqb, eqb-false}
 use Rattle.theory.specs.Lists.{tab, length-tab, getD-tab, tab-same, take-tab, drop-tab}
 use Rattle.theory.specs.Engine as E
-use Rattle.theory.specs.Engine.{stepTo, writeTo, listTo, endWith, settle, goBack, shownAt, markJob, earlier, firstStruck, isStruck, next, withdrawn}
+use Rattle.theory.specs.Engine.{stepTo, writeTo, listTo, endWith, settle, goBack, earlier, firstStruck, isStruck, next, withdrawn}
 use Rattle.theory.specs.Every.{Every, every-at}
 use Rattle.theory.specs.Versions.{Below, shown-append, withdrawn-below}
 use Rattle.machine.specs.Machine.{Running}
 use Rattle.machine.specs.declared.counts.Ticket.{Ticket}
 use Rattle.machine.specs.declared.instruction.Instruction.{Instruction}
 use Rattle.machine.specs.declared.job.State.{State}
-use Rattle.turns.specs.View.{entryOf, entriesOf, journalOf, placeAt, place-low, versionsOf, markOf, markByte, noJournal, noVersions, noRead, noReads, Showing, ShowingBelow}
-use Rattle.turns.specs.Block.{codeAt, noState, noCheckpoint, runningOf, checkpointOf, readOf, readsOf, statusOf, jobOf}
-use Rattle.turns.specs.Marks.{Shown, shownIn, struckBy, firstFrom, strikesAt, markBy, markReads, sweep, ListsFit}
+use Rattle.turns.specs.View.{entryOf, entriesOf, journalOf, placeAt, place-low, versionsOf, markOf, markByte, noJournal, noVersions, noRead, noReads, Showing}
+use Rattle.turns.specs.Block.{codeAt, noState, noCheckpoint, runningOf, checkpointOf, readOf, readsOf, jobOf}
+use Rattle.turns.specs.Marks.{shownIn, struckBy, firstFrom, strikesAt, markBy, markReads, sweep, ListsFit}
 use Rattle.turns.specs.Becomes.{Becomes, quiet}
 use Rattle.turns.specs.Moves.{listingOf, Sized, Held, Adds}
 use Rattle.turns.specs.declared.block.Entry.{Entry}

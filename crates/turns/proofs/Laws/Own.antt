@@ -8,13 +8,13 @@ use Prim.Native.Nat.{ℕ, zero, suc, _+_, _-_, _≤_, _<_}
 use native.Mathlib.Omega.{arith}
 use native.Mathlib.Numerals.{add-one}
 use native.Mathlib.Nat.{sub-zero}
-use lib.Dec.{eqb, leb}
+use lib.Dec.{eqb}
 use lib.ListN.{length, getD}
 use borrow.Author.Tests.{eq-eqb, ne-eqb, le-leb, lt-leb}
 use Rattle.theory.specs.Engine as E
 use Rattle.theory.specs.Engine.{lastAt, lastValue, orElse, next}
 use Rattle.turns.specs.View.{entryOf, journalOf, placeOf, valueOf, noRead}
-use Rattle.turns.specs.Turn.{listedFrom, listedIn, finalBelow}
+use Rattle.turns.specs.Turn.{listedFrom, finalBelow}
 use Rattle.turns.specs.declared.block.Entry.{Entry}
 use Rattle.turns.specs.declared.block.Journal.{Journal}
 use Rattle.turns.specs.declared.block.Reads.{Reads}

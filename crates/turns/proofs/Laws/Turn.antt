@@ -3,12 +3,12 @@ use mathlib.Core.Path.{_≡_, refl, ap, sym, subst, _∙_}
 use mathlib.Core.Bool.{Bool, true, false, not, cond, _&&_, _||_}
 use mathlib.Core.Logic.{_⊎_, inl, inr}
 use mathlib.Core.Option.{Option, none, some}
-use mathlib.Core.List.{List, [], _∷_, map}
+use mathlib.Core.List.{List, [], _∷_}
 use Prim.Native.Nat.{ℕ, zero, suc, _+_, _-_, _*_, _≤_, _<_}
 use native.Mathlib.Omega.{arith}
 use lib.Dec.{eqb, leb, ltb}
 use lib.ListN.{length, getD, drop, drop-of-length-le}
-use borrow.Author.Tests.{not-true, not-false, eq-eqb, ne-eqb, lt-ltb, le-ltb, le-leb, lt-leb}
+use borrow.Author.Tests.{not-true, not-false, eq-eqb, ne-eqb, lt-ltb, le-ltb, le-leb}
 use Rattle.theory.specs.Lists.{tab, length-tab, getD-tab, drop-tab, map-tab}
 use Rattle.theory.specs.Word as W
 use Rattle.theory.specs.Engine as E
@@ -17,16 +17,14 @@ use Rattle.theory.specs.Every.{every-at}
 use Rattle.theory.specs.Versions.{search-same, Below, published-below}
 use Rattle.machine.specs.Limits.{ROOM, FEW}
 use Rattle.machine.specs.Machine.{State as Plain, Running, given, inJob, current}
-use Rattle.machine.specs.View.{stateOf, codeOf, actOf, noJob}
+use Rattle.machine.specs.View.{stateOf, actOf, noJob}
 use Rattle.machine.specs.declared.counts.Cell.{Cell}
-use Rattle.machine.specs.declared.counts.Ticket.{Ticket}
-use Rattle.machine.specs.declared.instruction.Instruction.{Instruction}
 use Rattle.machine.specs.declared.job.State.{State}
 use Rattle.machine.specs.declared.step.Act.{Act as CodeAct}
 use Rattle.machine.specs.declared.step.Act.the-variants.{Nothing as NoAct, Read as ReadAct, Write as WriteAct, Stop as StopAct, Abandon as AbandonAct, Stuck as StuckAct}
 use Rattle.machine.specs.declared.step.Stepped.{Stepped}
 use Rattle.turns.specs.Box.{box, box-promise, limits}
-use Rattle.turns.specs.View.{entryOf, journalOf, versionsOf, valueOf, versionOf, versionAt, foundIn, markOf, noJournal, noVersions, noRead, noReads, Showing, ShowingBelow}
+use Rattle.turns.specs.View.{entryOf, journalOf, versionsOf, valueOf, versionOf, versionAt, foundIn, markOf, noJournal, noRead, noReads, Showing, ShowingBelow}
 use Rattle.turns.specs.Block.{codeAt, noState, noCheckpoint, runningOf, checkpointOf, readOf, readsOf, statusOf, jobOf, blockOf}
 use Rattle.turns.specs.Alone.{StepsIn}
 use Rattle.turns.specs.Becomes.{Becomes, becomes-changed}
@@ -34,7 +32,6 @@ use Rattle.turns.specs.Fitting.{count-fit, block-fit}
 use Rattle.turns.specs.Moves.{listingOf, Sized, Held}
 use Rattle.turns.specs.Turn.{wordOf, leaves, listedFrom, listedIn, finalBelow, jobs, cells, outside, reading, writing, returning, stepping, moving, Did, Turns, Reading, Marked, Whole}
 use Rattle.turns.specs.declared.block.Entry.{Entry}
-use Rattle.turns.specs.declared.block.Checkpoint.{Checkpoint}
 use Rattle.turns.specs.declared.block.Read.{Read}
 use Rattle.turns.specs.declared.block.Reads.{Reads}
 use Rattle.turns.specs.declared.block.Journal.{Journal}
@@ -48,15 +45,12 @@ use Rattle.turns.specs.declared.turn.Turned.{Turned}
 use Rattle.turns.proofs.Laws.Journal.{length-journal}
 use Rattle.turns.proofs.Laws.Versions.{length-versions}
 use Rattle.turns.proofs.Laws.Moves.{version-at}
-use Rattle.turns.proofs.Laws.Alone.{given-is}
+use Rattle.turns.proofs.Laws.Alone.{not-both, given-is}
 
 -- ---- a move with its word
 -- the place of a ticket of the block
 pub inside-of : (n t : ℕ) → 0 < t → t ≤ n → t - 1 < n
 inside-of n t p l = omega arith
-
-not-both : {A : Type 0} → false ≡ true → A
-not-both q = absurd (let z : _≡_ {A = ℕ} 0 1 = cc in omega arith)
 
 module _ (b : Block) (i : ℕ) (inside : i < b .count) (r : Block) (j : E.Job Running) (h : Becomes b r i j) where
   step-did : Did b i (E.moved W.step j) (record { word = Step; block = r })

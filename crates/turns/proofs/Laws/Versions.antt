@@ -1,6 +1,6 @@
 -- Public versions: a list of places is built by adding at its end, and what a loop has still to look at is the rest of the list.
 use mathlib.Core.Path.{_≡_, refl, ap, sym, _∙_}
-use mathlib.Core.Bool.{Bool, true, false, cond, _||_}
+use mathlib.Core.Bool.{Bool, true, false, cond}
 use mathlib.Core.Option.{Option, none, some}
 use mathlib.Core.List.{List, [], _∷_, _++_, append-nil, append-assoc}
 use Prim.Native.Nat.{ℕ, zero, suc, _+_, _-_, _≤_, _<_}
@@ -10,10 +10,10 @@ use lib.Dec.{eqb, ltb}
 use lib.ListN.{length, getD, set, drop, length-append, drop-of-length-le}
 use lib.Seq.{getD-set-same, getD-set-other, drop-cons}
 use borrow.Author.Tests.{eq-eqb, ne-eqb, lt-ltb, le-ltb}
-use Rattle.theory.specs.Lists.{tab, length-tab, getD-tab, tab-same, drop-tab}
+use Rattle.theory.specs.Lists.{length-tab, getD-tab, tab-same, drop-tab}
 use Rattle.theory.specs.Engine as E
 use Rattle.theory.specs.Engine.{shownAt, writes?, lastsFrom, published, withdrawn}
-use Rattle.turns.specs.View.{noEntry, entryOf, entriesOf, journalOf, placeAt, place-low, versionsOf, placeOf, noJournal, noVersions, Showing, ShowingBelow, lastOne, keptOne, valueOf, versionOf, versionAt, foundIn}
+use Rattle.turns.specs.View.{noEntry, entryOf, journalOf, placeAt, place-low, versionsOf, placeOf, noJournal, noVersions, Showing, ShowingBelow, lastOne, keptOne, valueOf, versionOf, versionAt, foundIn}
 use Rattle.turns.specs.declared.block.Entry.{Entry}
 use Rattle.turns.specs.declared.block.Journal.{Journal}
 use Rattle.turns.specs.declared.block.Versions.{Versions}

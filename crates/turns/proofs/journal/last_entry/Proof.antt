@@ -1,7 +1,7 @@
 -- Nothing from place k on writes the cell,
 -- so the last entry of the first k is the last of all.
 use mathlib.Core.Path.{_≡_}
-use Prim.Native.Nat.{_≤_, _<_, _-_}
+use Prim.Native.Nat.{_≤_}
 use Rattle.theory.specs.Engine.{lastAt}
 use Rattle.turns.specs.View.{entriesOf, journalOf}
 use borrow.Author.Needs.{needs}

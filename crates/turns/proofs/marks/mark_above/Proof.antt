@@ -1,7 +1,7 @@
 -- The lists from k on are as they were,
 -- and sweeping them is what is left of the whole sweep.
 use mathlib.Core.Path.{_≡_}
-use Prim.Native.Nat.{_≤_, _<_, _-_}
+use Prim.Native.Nat.{_≤_, _-_}
 use lib.ListN.{length}
 use Rattle.turns.specs.Marks.{Shown, ListsFit, markReads, sweep}
 use Rattle.turns.proofs.Laws.Marks.{Ahead}

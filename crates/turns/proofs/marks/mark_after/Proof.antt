@@ -1,8 +1,7 @@
 -- None of the first k reads is struck,
 -- so the first struck of the rest is the first of all.
 use mathlib.Core.Path.{_≡_}
-use Prim.Native.Nat.{_≤_, _<_, _-_}
-use Rattle.turns.specs.View.{markOf}
+use Prim.Native.Nat.{_≤_, _-_}
 use Rattle.turns.specs.Marks.{Shown, firstFrom, strikesAt}
 use borrow.Author.Needs.{needs}
 use Rattle.turns.proofs.Laws.Marks.{mark-laws}

@@ -1,7 +1,7 @@
 -- The jobs from place k on are final,
 -- so those below k decide.
 use mathlib.Core.Path.{_≡_}
-use Prim.Native.Nat.{_≤_, _<_, _-_}
+use Prim.Native.Nat.{_≤_}
 use Rattle.turns.specs.Turn.{finalBelow}
 use borrow.Author.Needs.{needs}
 use Rattle.turns.proofs.Laws.Own.{final-laws}

@@ -1,7 +1,7 @@
 -- None of the first k reads is of the cell,
 -- so what the rest hold is what all hold.
 use mathlib.Core.Path.{_≡_}
-use Prim.Native.Nat.{_≤_, _<_, _-_}
+use Prim.Native.Nat.{_≤_, _-_}
 use Rattle.turns.specs.Turn.{listedFrom}
 use borrow.Author.Needs.{needs}
 use Rattle.turns.proofs.Laws.Own.{listed-laws}

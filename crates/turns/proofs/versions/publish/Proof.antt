@@ -2,7 +2,7 @@
 -- are those of the whole journal.
 use mathlib.Core.Path.{_≡_}
 use mathlib.Core.List.{_++_}
-use Prim.Native.Nat.{_≤_, _<_, _-_}
+use Prim.Native.Nat.{_≤_, _-_}
 use lib.ListN.{drop}
 use Rattle.theory.specs.Engine.{lastsFrom, published}
 use Rattle.turns.specs.View.{journalOf, versionsOf}

@@ -1,7 +1,7 @@
 -- None of the first k versions names an entry of the cell,
 -- so what the rest show is what all show.
 use mathlib.Core.Path.{_≡_}
-use Prim.Native.Nat.{_≤_, _<_, _-_}
+use Prim.Native.Nat.{_≤_, _-_}
 use lib.ListN.{drop}
 use Rattle.theory.specs.Engine.{shownAt}
 use Rattle.turns.specs.View.{journalOf, versionsOf, Showing}

@@ -2,7 +2,7 @@
 -- are those kept of all.
 use mathlib.Core.Path.{_≡_}
 use mathlib.Core.List.{_++_}
-use Prim.Native.Nat.{_≤_, _<_, _-_}
+use Prim.Native.Nat.{_≤_, _-_}
 use lib.ListN.{drop}
 use Rattle.theory.specs.Engine.{withdrawn}
 use Rattle.turns.specs.View.{versionsOf}

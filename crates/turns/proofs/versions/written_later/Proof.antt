@@ -1,7 +1,7 @@
 -- No entry from place k to place i writes the cell,
 -- so the rest decides.
 use mathlib.Core.Path.{_≡_}
-use Prim.Native.Nat.{suc, _≤_, _<_, _-_}
+use Prim.Native.Nat.{suc, _≤_, _-_}
 use lib.ListN.{drop}
 use Rattle.theory.specs.Engine.{writes?}
 use Rattle.turns.specs.View.{journalOf}

@@ -1,0 +1,58 @@
+-- Document 01, "Opening": 12 for the start table, then the checker's refusals; else every job of the paper is fresh.
+use mathlib.Core.Path.{_≡_}
+use mathlib.Core.Bool.{not, cond}
+use mathlib.Core.List.{List, [], map}
+use Prim.Native.Nat.{ℕ}
+use lib.Dec.{eqb}
+use lib.ListN.{length, getD, replicate}
+use Rattle.theory.specs.Lists.{tab}
+use Rattle.theory.specs.Engine as E
+use Rattle.machine.specs.Limits.{CELLS}
+use Rattle.machine.specs.Machine.{Running, starting}
+use Rattle.machine.specs.Paper.{Answer, jobs, refused, refusal, paperAnswer}
+use Rattle.machine.specs.View.{codeOf, noJob, number}
+use Rattle.machine.specs.declared.job.Job.{Job}
+use Rattle.turns.specs.Box.{box, limits}
+use Rattle.turns.specs.Block.{blockOf}
+use Rattle.turns.specs.declared.block.Reads.{Reads}
+use Rattle.turns.specs.declared.open.Opened.{Opened}
+use Rattle.turns.specs.declared.open.Opening.{Opening}
+use Rattle.turns.specs.declared.open.Opening.the-variants.{Accepted, WrongTable, Refused}
+
+-- no jobs, so no final jobs, and an all-zero table
+unfoldable pub nothingOpen : E.Block Running
+nothingOpen = record { table = replicate CELLS 0; jobs = [] }
+
+-- the block after an answer of the checker
+unfoldable pub openedBy : List ℕ → Answer → E.Block Running
+openedBy start (jobs js) = E.opened limits box start (map starting js)
+openedBy start (refused n f p) = nothingOpen
+
+-- the block that an opening yields
+unfoldable pub openBlock : List ℕ → List ℕ → E.Block Running
+openBlock start paper = cond (not (eqb (length start) CELLS)) nothingOpen (openedBy start (paperAnswer paper))
+
+-- the number, field and place of the refusal; 0, 0 and 0 where the paper is accepted
+unfoldable pub openAnswer : List ℕ → List ℕ → ℕ × ℕ × ℕ
+openAnswer start paper = cond (not (eqb (length start) CELLS)) (12, 0, 0) (refusal (paperAnswer paper))
+
+-- document 01's number, field and place of each answer
+unfoldable pub openingOf : Opening → ℕ × ℕ × ℕ
+openingOf Accepted = (0, 0, 0)
+openingOf WrongTable = (12, 0, 0)
+openingOf (Refused f g p) = (number f, g .0, p .0)
+
+-- the whole of an opening
+pub record Opens (start paper : List ℕ) (r : Opened) : Type 0 where
+  pub answer : openingOf (r .answer) ≡ openAnswer start paper
+  pub block : blockOf (r .block) ≡ openBlock start paper
+
+-- ---- the parts
+-- the first n jobs, each at its start
+unfoldable pub freshBlock : List ℕ → ℕ → List Job → E.Block Running
+freshBlock table n js = record { table = table; jobs = tab n (λ k. E.fresh (starting (codeOf (getD js k noJob)))) }
+
+-- a list of no reads, marked nowhere
+pub record NoReads (r : Reads) : Type 0 where
+  pub size : r .size ≡ 0
+  pub mark : r .mark ≡ 255
