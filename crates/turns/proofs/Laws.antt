@@ -10,4 +10,5 @@ pub mod Alone
 pub mod Serial
 pub mod Turn
 pub mod Open
+pub mod Settled
 pub mod Sizes

@@ -9,5 +9,7 @@ pub mod Turn
 pub mod SerialRun
 pub mod Alone
 pub mod Open
+pub mod Settled
+pub mod Demands
 pub mod Sizes
 pub mod Fitting

@@ -5,6 +5,7 @@ mod marks;
 mod moves;
 pub mod open;
 pub mod serial;
+pub mod settled;
 mod sizes;
 pub mod turn;
 mod versions;

@@ -112,7 +112,7 @@ cell-at : (b : Block) (c : ℕ) → cells b c ≡ getD (b .start) c 0
 unfolding blockOf
 cell-at b c = refl
 
-found-is : (b : Block) (i c : ℕ) → i ≤ b .count → foundIn (b .journals) (b .versions) (getD (b .start) c 0) c i ≡ E.find (cells b) (jobs b) c i
+pub found-is : (b : Block) (i c : ℕ) → i ≤ b .count → foundIn (b .journals) (b .versions) (getD (b .start) c 0) c i ≡ E.find (cells b) (jobs b) c i
 unfolding foundIn
 found-is b i c l = rw (cell-at b c) (search-same (getD (b .start) c 0) (λ k. E.version (jobs b k) c) (λ k. versionAt (b .journals) (b .versions) k c) i at)
   where
@@ -304,7 +304,7 @@ is-final zero = refl
 is-final (suc zero) = refl
 is-final (suc (suc n)) = sym (le-leb 2 (suc (suc n)) (omega arith))
 
-status-final : (b : Block) (k : ℕ) → E.isFinal (jobOf b k .status) ≡ leb 2 (getD (b .status) k 0)
+pub status-final : (b : Block) (k : ℕ) → E.isFinal (jobOf b k .status) ≡ leb 2 (getD (b .status) k 0)
 unfolding jobOf
 status-final b k = is-final (getD (b .status) k 0)
 
