@@ -50,11 +50,11 @@ formAt few is p = formOf few (length is) p (at is p) (count is READ p) (count is
 unfoldable pub endOf : List Instruction → Finding
 endOf is = cond (leadsOn (at is (length is - 1))) (fault 7 (length is - 1)) sound
 
--- a height is brought to a place of which m is known
+-- a height is brought to a place of which m is known; the one first brought is kept
 abbrev pub meet : Met → ℕ → Met
 meet Nobody h = Height h
-meet (Height g) h = cond (eqb g h) (Height g) Clash
-meet Clash h = Clash
+meet (Height g) h = cond (eqb g h) (Height g) (Clash g)
+meet (Clash g) h = Clash g
 
 abbrev pub bring : Bool → ℕ → ℕ → List Met → List Met
 bring true t h ms = set ms t (meet (getD ms t Nobody) h)
@@ -64,18 +64,38 @@ bring false t h ms = ms
 abbrev pub lead : Instruction → ℕ → Met → List Met → List Met
 lead i p (Height h) ms = bring (jumps i) (i .operand) (after i h) (bring (leadsOn i) (suc p) (after i h) ms)
 lead i p Nobody ms = ms
-lead i p Clash ms = ms
+lead i p (Clash h) ms = ms
 
 -- what the places before p bring to each place; place 0 has height 0
 unfoldable pub brought : ℕ → List Instruction → ℕ → List Met
 brought longest is zero = set (replicate longest Nobody) 0 (Height 0)
 brought longest is (suc p) = let ms = brought longest is p in lead (at is p) p (getD ms p Nobody) ms
 
+-- 8: no earlier place leads here, to p, of which m is known
+abbrev pub ledOf : ℕ → Met → Finding
+ledOf p Nobody = fault 8 p
+ledOf p (Height h) = sound
+ledOf p (Clash h) = sound
+
+-- 10: two heights meet here
+abbrev pub meetingOf : ℕ → Met → Finding
+meetingOf p Nobody = sound
+meetingOf p (Height h) = sound
+meetingOf p (Clash h) = fault 10 p
+
+-- 9 of instruction i at height h: too few entries, or more than the room left
+abbrev pub foundOf : ℕ → Instruction → ℕ → ℕ → Finding
+foundOf room i p h = cond (leb (need i) h && leb (after i h) room) sound (fault 9 p)
+
+-- 9 at the height first brought here, whether or not others clash with it
+abbrev pub heightOf : ℕ → Instruction → ℕ → Met → Finding
+heightOf room i p Nobody = sound
+heightOf room i p (Height h) = foundOf room i p h
+heightOf room i p (Clash h) = foundOf room i p h
+
 -- 8, 10, 9 of instruction i at place p, of which m is known
 abbrev pub entriesOf : ℕ → Instruction → ℕ → Met → Finding
-entriesOf room i p Nobody = fault 8 p
-entriesOf room i p Clash = fault 10 p
-entriesOf room i p (Height h) = cond (leb (need i) h && leb (after i h) room) sound (fault 9 p)
+entriesOf room i p m = andThen (ledOf p m) (andThen (meetingOf p m) (heightOf room i p m))
 
 unfoldable pub entriesAt : ℕ → ℕ → List Instruction → ℕ → Finding
 entriesAt room longest is p = entriesOf room (at is p) p (getD (brought longest is p) p Nobody)

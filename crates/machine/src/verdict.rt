@@ -8,7 +8,7 @@ ghost use Prim.Native.Nat.{_+_, _≤_, _<_};
 ghost use lib.Dec.{eqb};
 ghost use Rattle.machine.specs.Limits.{LONGEST, ROOM, FEW};
 ghost use Rattle.machine.specs.Instruction.{leadsOn, need, after};
-ghost use Rattle.machine.specs.Verdict.{sound, scan, formOf, formAt, endOf, meet, bring, lead, entriesOf, entriesAt, flowOf, jobVerdict};
+ghost use Rattle.machine.specs.Verdict.{sound, scan, formOf, formAt, endOf, meet, bring, lead, ledOf, meetingOf, foundOf, heightOf, entriesOf, entriesAt, flowOf, jobVerdict};
 ghost use Rattle.machine.specs.View.{codeOf, number, findingOf};
 ghost use Rattle.machine.specs.Fitting.{Fitting};
 
@@ -53,11 +53,11 @@ pub enum Check {
     Refused(Fault, Place),
 }
 
-// What earlier places bring to a place: nobody leads there, one height, or two.
+// What earlier places bring to a place: nobody leads there, one height, or two, of which the first is kept.
 pub enum Met {
     Nobody,
     Height(u8),
-    Clash,
+    Clash(u8),
 }
 
 // 5, 6, 11 at one place of a job of so many, after so many READ and WRITE.
@@ -131,23 +131,65 @@ fn check_end(j: Job) -> Check
     Check::Passes
 }
 
+// 8
+fn check_led(place: Place, m: Met) -> Check
+    ensures { λ r. ⌜ findingOf r ≡ ledOf (place .0) m ⌝ }
+{
+    match m {
+        Met::Nobody => Check::Refused(Fault::NotLed, place),
+        Met::Height(_) => Check::Passes,
+        Met::Clash(_) => Check::Passes,
+    }
+}
+
+// 10
+fn check_meeting(place: Place, m: Met) -> Check
+    ensures { λ r. ⌜ findingOf r ≡ meetingOf (place .0) m ⌝ }
+{
+    match m {
+        Met::Nobody => Check::Passes,
+        Met::Height(_) => Check::Passes,
+        Met::Clash(_) => Check::Refused(Fault::Heights, place),
+    }
+}
+
+// 9 at a height.
+fn check_found(i: Instruction, place: Place, h: u8) -> Check
+    ensures { λ r. ⌜ findingOf r ≡ foundOf ROOM i (place .0) h ⌝ }
+{
+    if !i.finds(h) {
+        return Check::Refused(Fault::Entries, place);
+    }
+    if (Job::ROOM as u16) < i.leaves(h) {
+        return Check::Refused(Fault::Entries, place);
+    }
+    Check::Passes
+}
+
+// 9 at the height first brought, whether or not others clash with it.
+fn check_height(i: Instruction, place: Place, m: Met) -> Check
+    ensures { λ r. ⌜ findingOf r ≡ heightOf ROOM i (place .0) m ⌝ }
+{
+    match m {
+        Met::Nobody => Check::Passes,
+        Met::Height(h) => check_found(i, place, h),
+        Met::Clash(h) => check_found(i, place, h),
+    }
+}
+
 // 8, 10, 9 at one place.
 fn check_entries(i: Instruction, place: Place, m: Met) -> Check
     ensures { λ r. ⌜ findingOf r ≡ entriesOf ROOM i (place .0) m ⌝ }
 {
-    match m {
-        Met::Nobody => Check::Refused(Fault::NotLed, place),
-        Met::Clash => Check::Refused(Fault::Heights, place),
-        Met::Height(h) => {
-            if !i.finds(h) {
-                return Check::Refused(Fault::Entries, place);
-            }
-            if (Job::ROOM as u16) < i.leaves(h) {
-                return Check::Refused(Fault::Entries, place);
-            }
-            Check::Passes
-        }
-    }
+    let led = check_led(place, m);
+    let Check::Passes = led else {
+        return led;
+    };
+    let meeting = check_meeting(place, m);
+    let Check::Passes = meeting else {
+        return meeting;
+    };
+    check_height(i, place, m)
 }
 
 // What is known of a place once a height is brought to it.
@@ -156,12 +198,12 @@ fn met_with(m: Met, h: u8) -> Met
 {
     match m {
         Met::Nobody => Met::Height(h),
-        Met::Clash => Met::Clash,
+        Met::Clash(g) => Met::Clash(g),
         Met::Height(g) => {
             if g == h {
                 return Met::Height(g);
             }
-            Met::Clash
+            Met::Clash(g)
         }
     }
 }
@@ -193,7 +235,7 @@ fn lead_from(i: Instruction, place: Place, m: Met, known: [Met; 64]) -> [Met; 64
 {
     match m {
         Met::Nobody => known,
-        Met::Clash => known,
+        Met::Clash(_) => known,
         Met::Height(h) => {
             let after = i.leaves(h) as u8;
             let k = bring_if(known, i.leads_on(), place.0 as u64 + 1, after);

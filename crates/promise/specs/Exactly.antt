@@ -224,7 +224,7 @@ module _ (longest room few : ℕ) (is : List Instruction) where
 
       go : (m : Met) → Led (suc p) t (ms p) → Led (suc p) t (lead (at is p) p m (ms p))
       go Nobody w = w
-      go Clash w = w
+      go (Clash h) w = w
       go (Height h) w =
           let b = after (at is p) h in
           led-by p t b (on p b) (both p b) (jumpsTo (at is p) t) (or-right (onTo (at is p) p t) (jumpsTo (at is p) t)) (jump-seen p b t (omega arith))

@@ -37,7 +37,7 @@ pub record Sound (height : ℕ → ℕ) (room few : ℕ) (is : List Instruction)
 abbrev heightIn : Met → ℕ
 heightIn (Height h) = h
 heightIn Nobody = 0
-heightIn Clash = 0
+heightIn (Clash h) = 0
 
 -- the height that is brought to a place
 unfoldable pub heightOf : ℕ → List Instruction → ℕ → ℕ
@@ -46,21 +46,21 @@ heightOf longest is p = heightIn (getD (brought longest is p) p Nobody)
 -- ---- a place that was brought the height h has it, or two heights
 data Holds (h : ℕ) : Met → Type 0 where
   just : Holds h (Height h)
-  torn : Holds h Clash
+  torn : {g : ℕ} → Holds h (Clash g)
 
 meet-holds : (m : Met) (h : ℕ) → Holds h (meet m h)
 meet-holds Nobody h = just
 meet-holds (Height g) h = go (eqb g h) refl
   where
-    go : (t : Bool) → eqb g h ≡ t → Holds h (cond t (Height g) Clash)
+    go : (t : Bool) → eqb g h ≡ t → Holds h (cond t (Height g) (Clash g))
     go true e = rw (eqb-true g h e) just
     go false e = torn
-meet-holds Clash h = torn
+meet-holds (Clash g) h = torn
 
 meet-keeps : {a : ℕ} {m : Met} (h : ℕ) → Holds a m → Holds a (meet m h)
 meet-keeps {a} h just = go (eqb a h)
   where
-    go : (t : Bool) → Holds a (cond t (Height a) Clash)
+    go : (t : Bool) → Holds a (cond t (Height a) (Clash a))
     go true = just
     go false = torn
 meet-keeps h torn = torn
@@ -82,7 +82,7 @@ bring-holds t h ms l = rw (getD-set-same ms t (meet (getD ms t Nobody) h) Nobody
 
 lead-keeps : (i : Instruction) (p : ℕ) (m : Met) (ms : List Met) (a k : ℕ) → At a ms k → At a (lead i p m ms) k
 lead-keeps i p Nobody ms a k w = w
-lead-keeps i p Clash ms a k w = w
+lead-keeps i p (Clash h) ms a k w = w
 lead-keeps i p (Height h) ms a k w = bring-keeps (jumps i) _ _ _ a k (bring-keeps (leadsOn i) _ _ _ a k w)
 
 pub length-bring : (b : Bool) (t h : ℕ) (ms : List Met) → length (bring b t h ms) ≡ length ms
@@ -91,7 +91,7 @@ length-bring true t h ms = length-set ms t _
 
 length-lead : (i : Instruction) (p : ℕ) (m : Met) (ms : List Met) → length (lead i p m ms) ≡ length ms
 length-lead i p Nobody ms = refl
-length-lead i p Clash ms = refl
+length-lead i p (Clash h) ms = refl
 length-lead i p (Height h) ms = length-bring (jumps i) _ _ _ ∙ length-bring (leadsOn i) _ _ _
 
 pub length-brought : (longest : ℕ) (is : List Instruction) (p : ℕ) → length (brought longest is p) ≡ longest
@@ -104,16 +104,16 @@ length-brought longest is (suc p) =
 abbrev Low : ℕ → Met → Type 0
 Low room (Height h) = h ≤ room
 Low room Nobody = Unit {0}
-Low room Clash = Unit {0}
+Low room (Clash h) = Unit {0}
 
 meet-low : (room : ℕ) (m : Met) (h : ℕ) → h ≤ room → Low room m → Low room (meet m h)
 meet-low room Nobody h l w = l
 meet-low room (Height g) h l w = go (eqb g h)
   where
-    go : (t : Bool) → Low room (cond t (Height g) Clash)
+    go : (t : Bool) → Low room (cond t (Height g) (Clash g))
     go true = w
     go false = tt
-meet-low room Clash h l w = tt
+meet-low room (Clash g) h l w = tt
 
 bring-low : (room : ℕ) (b : Bool) (t h : ℕ) (ms : List Met) → h ≤ room → ((k : ℕ) → Low room (getD ms k Nobody)) → (k : ℕ) → Low room (getD (bring b t h ms) k Nobody)
 bring-low room false t h ms l w k = w k
@@ -146,7 +146,7 @@ module _ (longest room few : ℕ) (is : List Instruction) (pass : verdictOf long
     where
       go : (m : Met) → entriesOf room (at is p) p m ≡ sound → (m ≡ Height (heightIn m)) × (need (at is p) ≤ heightIn m) × (after (at is p) (heightIn m) ≤ room)
       go Nobody e = absurd (not-sound e)
-      go Clash e = absurd (not-sound e)
+      go (Clash h) e = absurd (not-sound e)
       go (Height h) e = let w = entries-sound room (at is p) p h e in (refl, w .0, w .1)
 
   brought-low : (p : ℕ) → p ≤ n → (k : ℕ) → Low room (getD (ms p) k Nobody)
@@ -172,7 +172,7 @@ module _ (longest room few : ℕ) (is : List Instruction) (pass : verdictOf long
     where
       go : (m : Met) → m ≡ Height (heightIn m) → Low room m → heightIn m ≤ room
       go Nobody e w = omega arith
-      go Clash e w = omega arith
+      go (Clash h) e w = omega arith
       go (Height h) e w = w
 
   form : (p : ℕ) → p < n → Formed few is p

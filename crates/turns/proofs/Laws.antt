@@ -12,3 +12,4 @@ pub mod Turn
 pub mod Open
 pub mod Settled
 pub mod Sizes
+pub mod Many

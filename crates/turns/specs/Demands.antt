@@ -2,10 +2,14 @@
 -- They are the theory's theorems at the box's machine, whose promise the checker's answer gives.
 use mathlib.Core.Path.{_≡_, refl, fun-ext}
 use mathlib.Core.Logic.{_≢_}
+use mathlib.Core.Bool.{Bool, true, false, not, cond}
 use mathlib.Core.List.{List, [], _∷_, map}
 use Prim.Native.Nat.{ℕ, suc, _+_, _≤_, _<_}
 use native.Mathlib.Omega.{arith}
+use native.Mathlib.Decide.{ℕ-discrete}
+use lib.Dec.{eqb}
 use lib.ListN.{length, getD, length-map, List·getD-map}
+use borrow.Author.Tests.{ne-eqb}
 use Rattle.theory.specs.Word as W
 use Rattle.theory.specs.Promise.{Passed}
 use Rattle.theory.specs.Engine as E
@@ -17,16 +21,25 @@ use Rattle.theory.specs.NeverStuck as N
 use Rattle.theory.specs.FinalWithin as F
 use Rattle.machine.specs.Limits.{FEW, JOBS, CELLS}
 use Rattle.machine.specs.Machine.{Running, starting}
-use Rattle.machine.specs.Paper.{jobs, paperAnswer}
+use Rattle.machine.specs.Paper.{Answer, jobs, refused, paperAnswer}
 use Rattle.machine.specs.declared.instruction.Instruction.{Instruction}
 use Rattle.promise.specs.Papers.{accepted-jobs}
 use Rattle.turns.specs.Box.{box, boxChecked, box-promise, limits}
 use Rattle.turns.specs.SerialRun.{cellsOf}
-use Rattle.turns.specs.Open.{openedBy, openBlock}
+use Rattle.turns.specs.Open.{nothingOpen, openedBy, openBlock}
 
 every-from : (P : Running → Type 0) (js : List (List Instruction)) → ((k : ℕ) → k < length js → P (starting (getD js k []))) → Every P (map starting js)
 every-from P [] h = tt
 every-from P (j ∷ js) h = (h 0 (omega arith), every-from P js (λ k l. h (suc k) (omega arith)))
+
+-- the block of a refused opening
+open-wrong : (start paper : List ℕ) → (length start ≡ CELLS → ⊥) → openBlock start paper ≡ nothingOpen
+unfolding openBlock
+open-wrong start paper l = rw (ne-eqb (length start) CELLS l) refl
+
+open-refused : (start paper : List ℕ) (n f p : ℕ) → length start ≡ CELLS → paperAnswer paper ≡ refused n f p → openBlock start paper ≡ nothingOpen
+unfolding openBlock openedBy
+open-refused start paper n f p l e = rw (l, e) refl
 
 module _ (start paper : List ℕ) (js : List (List Instruction)) (whole : length start ≡ CELLS) (accepted : paperAnswer paper ≡ jobs js) where
   -- the block in work after an opening and these tickets
@@ -61,3 +74,41 @@ module _ (start paper : List ℕ) (js : List (List Instruction)) (whole : length
   final-within ts more i l lower turns =
       rw opens (F.final-within limits box box-promise boxChecked start (map starting js) few passed ts more i (omega (arith, length-map js starting)) (rw opens at lower)
       (rw (starts i) (omega arith)))
+
+  -- the block fits after any turns
+  pub always-fits : (ts : List ℕ) → E.blockFits limits box (after ts) ≡ true
+  always-fits ts = rw opens (N.reached-fits limits box box-promise boxChecked start (map starting js) few passed ts)
+
+-- a refused opening yields a block that fits too, and no opening yields a final job
+module _ (start paper : List ℕ) where
+  none-open : E.blockFits limits box nothingOpen ≡ true
+  unfolding nothingOpen E.blockFits
+  none-open = refl
+
+  pub open-fits : E.blockFits limits box (openBlock start paper) ≡ true
+  unfolding E.turns
+  open-fits = sized (ℕ-discrete (length start) CELLS)
+    where
+      answered : (a : Answer) → paperAnswer paper ≡ a → length start ≡ CELLS → E.blockFits limits box (openBlock start paper) ≡ true
+      answered (jobs js) e l = always-fits start paper js l e []
+      answered (refused n f p) e l = rw (open-refused start paper n f p l e) none-open
+
+      sized : Dec (length start ≡ CELLS) → E.blockFits limits box (openBlock start paper) ≡ true
+      sized (yes l) = answered (paperAnswer paper) refl l
+      sized (no l) = rw (open-wrong start paper l) none-open
+
+  fresh-finals : (ss : List Running) → E.finals limits box (map E.fresh ss) ≡ 0
+  fresh-finals [] = refl
+  fresh-finals (s ∷ ss) = omega (arith, fresh-finals ss)
+
+  pub open-finals : E.finals limits box (openBlock start paper .jobs) ≡ 0
+  unfolding openBlock openedBy nothingOpen
+  open-finals = sized (eqb (length start) CELLS)
+    where
+      answered : (a : Answer) → E.finals limits box (openedBy start a .jobs) ≡ 0
+      answered (jobs js) = fresh-finals (map starting js)
+      answered (refused n f p) = refl
+
+      sized : (t : Bool) → E.finals limits box (cond (not t) nothingOpen (openedBy start (paperAnswer paper)) .jobs) ≡ 0
+      sized true = answered (paperAnswer paper)
+      sized false = refl

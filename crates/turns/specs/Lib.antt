@@ -6,6 +6,7 @@ pub mod Block
 pub mod Becomes
 pub mod Moves
 pub mod Turn
+pub mod Many
 pub mod SerialRun
 pub mod Alone
 pub mod Open

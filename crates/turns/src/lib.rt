@@ -1,6 +1,7 @@
 // The engine: a block in work, its opening, its turns, the settled table, and the serial run.
 pub mod block;
 mod journal;
+pub mod many;
 mod marks;
 mod moves;
 pub mod open;

@@ -14,6 +14,17 @@ struct Reader {
     comment: bool,
 }
 
+impl Reader {
+    // No digit waits.
+    fn after(size: usize, comment: bool) -> Reader {
+        Reader {
+            size: size,
+            digit: 16,
+            comment: comment,
+        }
+    }
+}
+
 // The value of a hexadecimal digit, or 16.
 fn digit_of(b: u8) -> u8
     ensures { λ r. ⌜ r ≤ 16 ⌝ }
@@ -54,31 +65,9 @@ fn answer_first(buffer: &[u8], size: usize) {
     }
 }
 
-// The reader after one byte; a byte past the buffer is dropped.
-fn read_byte(paper: &mut [u8], r: Reader, b: u8) -> Reader {
+// The reader after a digit; no other byte counts, and one past the buffer is dropped.
+fn read_digit(paper: &mut [u8], r: Reader, b: u8) -> Reader {
     let size = r.size;
-    if r.comment {
-        return Reader {
-            size: size,
-            digit: 16,
-            comment: b != b'\n',
-        };
-    }
-    if b == b'#' {
-        return Reader {
-            size: size,
-            digit: 16,
-            comment: true,
-        };
-    }
-    if b == b'.' {
-        answer_first(&*paper, size);
-        return Reader {
-            size: 0,
-            digit: 16,
-            comment: false,
-        };
-    }
     let low = digit_of(b);
     if 16 <= low {
         return r;
@@ -92,17 +81,25 @@ fn read_byte(paper: &mut [u8], r: Reader, b: u8) -> Reader {
     }
     if size < paper.len() {
         paper[size] = r.digit * 16 + low;
-        return Reader {
-            size: size + 1,
-            digit: 16,
-            comment: false,
-        };
+        return Reader::after(size + 1, false);
     }
-    Reader {
-        size: size,
-        digit: 16,
-        comment: false,
+    Reader::after(size, false)
+}
+
+// The reader after one byte.
+fn read_byte(paper: &mut [u8], r: Reader, b: u8) -> Reader {
+    let size = r.size;
+    if r.comment {
+        return Reader::after(size, b != b'\n');
     }
+    if b == b'#' {
+        return Reader::after(size, true);
+    }
+    if b == b'.' {
+        answer_first(&*paper, size);
+        return Reader::after(0, false);
+    }
+    read_digit(paper, r, b)
 }
 
 fn read_bytes(paper: &mut [u8], r: Reader, bytes: &[u8]) -> Reader {
@@ -118,11 +115,7 @@ fn read_bytes(paper: &mut [u8], r: Reader, bytes: &[u8]) -> Reader {
 fn main() {
     let mut paper = [0u8; 16384];
     let mut bytes = io::buffer();
-    let mut reader = Reader {
-        size: 0,
-        digit: 16,
-        comment: false,
-    };
+    let mut reader = Reader::after(0, false);
     let mut turns = u64::MAX;
     while turns > 0 {
         let n = io::read_full(STDIN_FILENO, &mut bytes);

@@ -16,7 +16,7 @@ use Rattle.theory.specs.Lists.{length-firsts, getD-firsts}
 use Rattle.machine.specs.Instruction.{READ, WRITE, known, fits, leadsOn, jumps, need, after}
 use Rattle.machine.specs.Machine.{stopping}
 use Rattle.machine.specs.Able.{jump-place}
-use Rattle.machine.specs.Verdict.{Finding, sound, fault, andThen, scan, at, count, formOf, formAt, endOf, meet, bring, lead, brought, entriesOf, entriesAt, sizeOf, flowOf, verdictOf, jobVerdict}
+use Rattle.machine.specs.Verdict.{Finding, sound, fault, andThen, scan, at, count, formOf, formAt, endOf, meet, bring, lead, brought, ledOf, meetingOf, foundOf, heightOf, entriesOf, entriesAt, sizeOf, flowOf, verdictOf, jobVerdict}
 use Rattle.machine.specs.Passing.{scan-sound, form-sound, end-sound, entries-sound}
 use Rattle.machine.specs.Fitting.{Fitting}
 use Rattle.machine.specs.View.{codeOf, findingOf}
@@ -26,7 +26,7 @@ use Rattle.machine.specs.declared.job.Job.{Job}
 use Rattle.machine.specs.declared.verdict.Met.{Met}
 use Rattle.machine.specs.declared.verdict.Met.the-variants.{Nobody, Height, Clash}
 use Rattle.machine.specs.declared.verdict.Fault.{Fault}
-use Rattle.machine.specs.declared.verdict.Fault.the-variants.{Length, Code, Operand, LeadsOn, NotLed, Entries, Heights, TooMany}
+use Rattle.machine.specs.declared.verdict.Fault.the-variants.{Length, Code, Operand, LeadsOn, Entries, TooMany}
 use Rattle.machine.specs.declared.verdict.Check.{Check}
 use Rattle.machine.specs.declared.verdict.Check.the-variants.{Passes, Refused}
 
@@ -153,41 +153,56 @@ pub ruleset forms-laws = (scan-start, count-start, scan-end, forms-stop, forms-o
 pub ruleset end-laws = (end-on, end-off)
 
 -- ---- 8, 10, 9 at one place
-module _ (i : Instruction) (q : Place) (m : Met) where
-  pub entries-nobody : m ≡ Nobody → findingOf (Refused NotLed q) ≡ entriesOf 16 i (q .0) m
+module _ (i : Instruction) (q : Place) (h : ℕ) where
+  pub found-few : leb (need i) h ≡ false → findingOf (Refused Entries q) ≡ foundOf 16 i (q .0) h
   unfolding findingOf
-  entries-nobody e = simp e
+  found-few n = simp n
 
-  pub entries-clash : m ≡ Clash → findingOf (Refused Heights q) ≡ entriesOf 16 i (q .0) m
+  pub found-high : (a : ℕ) → leb (need i) h ≡ true → a ≡ after i h → 16 < a → findingOf (Refused Entries q) ≡ foundOf 16 i (q .0) h
   unfolding findingOf
-  entries-clash e = simp e
+  found-high a n e l = simp (n, ← e, lt-leb _ _ l)
 
-  module _ (h : ℕ) (em : m ≡ Height h) where
-    pub entries-few : leb (need i) h ≡ false → findingOf (Refused Entries q) ≡ entriesOf 16 i (q .0) m
+  pub found-pass : (a : ℕ) → leb (need i) h ≡ true → a ≡ after i h → a ≤ 16 → findingOf Passes ≡ foundOf 16 i (q .0) h
+  unfolding findingOf
+  found-pass a n e l = simp (n, ← e, le-leb _ _ l)
+
+pub ruleset found-laws = (found-few, found-high, found-pass)
+
+module _ (i : Instruction) (q : Place) (m : Met) (v : Check) where
+  pub height-alone : (h : ℕ) → m ≡ Height h → findingOf v ≡ foundOf 16 i (q .0) h → findingOf v ≡ heightOf 16 i (q .0) m
+  height-alone h e f = simp e f
+
+  pub height-clash : (h : ℕ) → m ≡ Clash h → findingOf v ≡ foundOf 16 i (q .0) h → findingOf v ≡ heightOf 16 i (q .0) m
+  height-clash h e f = simp e f
+
+  -- the first fault found is the answer
+  pub entries-led : (x : Fault) (r : Place) → findingOf v ≡ ledOf (q .0) m → v ≡ Refused x r → findingOf v ≡ entriesOf 16 i (q .0) m
+  unfolding findingOf
+  entries-led x r e t = rw (← e, t) refl
+
+  module _ (led : ledOf (q .0) m ≡ sound) where
+    pub entries-meeting : (x : Fault) (r : Place) → findingOf v ≡ meetingOf (q .0) m → v ≡ Refused x r → findingOf v ≡ entriesOf 16 i (q .0) m
     unfolding findingOf
-    entries-few n = simp (em, n)
+    entries-meeting x r e t = rw (led, ← e, t) refl
 
-    pub entries-high : (a : ℕ) → leb (need i) h ≡ true → a ≡ after i h → 16 < a → findingOf (Refused Entries q) ≡ entriesOf 16 i (q .0) m
-    unfolding findingOf
-    entries-high a n e l = simp (em, n, ← e, lt-leb _ _ l)
+    pub entries-height : meetingOf (q .0) m ≡ sound → findingOf v ≡ heightOf 16 i (q .0) m → findingOf v ≡ entriesOf 16 i (q .0) m
+    entries-height meeting e = rw (led, meeting) e
 
-    pub entries-pass : (a : ℕ) → leb (need i) h ≡ true → a ≡ after i h → a ≤ 16 → findingOf Passes ≡ entriesOf 16 i (q .0) m
-    unfolding findingOf
-    entries-pass a n e l = simp (em, n, ← e, le-leb _ _ l)
+pub ruleset height-laws = (height-alone, height-clash)
 
-pub ruleset entries-laws = (entries-nobody, entries-clash, entries-few, entries-high, entries-pass)
+pub ruleset entries-laws = (entries-led, entries-meeting, entries-height)
 
 module _ (m : Met) (h : ℕ) where
   pub meet-nobody : m ≡ Nobody → Height h ≡ meet m h
   meet-nobody e = simp e
 
-  pub meet-clash : m ≡ Clash → Clash ≡ meet m h
-  meet-clash e = simp e
+  pub meet-clash : (g : ℕ) → m ≡ Clash g → Clash g ≡ meet m h
+  meet-clash g e = simp e
 
   pub meet-same : (g : ℕ) → m ≡ Height g → g ≡ h → Height g ≡ meet m h
   meet-same g e q = simp (e, eq-eqb _ _ q)
 
-  pub meet-other : (g : ℕ) → m ≡ Height g → (g ≡ h → ⊥) → Clash ≡ meet m h
+  pub meet-other : (g : ℕ) → m ≡ Height g → (g ≡ h → ⊥) → Clash g ≡ meet m h
   meet-other g e q = simp (e, ne-eqb _ _ q)
 
 pub ruleset meet-laws = (meet-nobody, meet-clash, meet-same, meet-other)
@@ -208,12 +223,6 @@ bring-set ms t h r q = simp q
 pub ruleset bring-laws = (bring-none, bring-inside, bring-some, bring-set)
 
 module _ (i : Instruction) (p : ℕ) (m : Met) where
-  pub lead-nobody : (ms : List Met) → m ≡ Nobody → ms ≡ lead i p m ms
-  lead-nobody ms e = simp e
-
-  pub lead-clash : (ms : List Met) → m ≡ Clash → ms ≡ lead i p m ms
-  lead-clash ms e = simp e
-
   pub lead-cast : (h a : ℕ) → entriesOf 16 i p m ≡ sound → m ≡ Height h → a ≡ after i h → Fits w8 a
   lead-cast h a e q d = record { fits = omega (arith, entries-sound 16 i p h (rw q at e) .1) }
 
@@ -226,7 +235,7 @@ module _ (i : Instruction) (p : ℕ) (m : Met) where
   pub lead-height : (h a : ℕ) (b d : Bool) (ms k r : List Met) → m ≡ Height h → a ≡ after i h → b ≡ leadsOn i → k ≡ bring b (p + 1) a ms → d ≡ jumps i → r ≡ bring d (i .operand) a k → r ≡ lead i p m ms
   lead-height h a b d ms k r e f g q u v = simp (e, ← f, ← g, ← u, ← add-one) (v ∙ ap (bring d (i .operand) a) q)
 
-pub ruleset lead-laws = (lead-nobody, lead-clash, lead-cast, lead-on, lead-jump, lead-height)
+pub ruleset lead-laws = (lead-cast, lead-on, lead-jump, lead-height)
 
 -- ---- 8, 10, 9 place by place
 module _ (j : Job) (p : ℕ) (l : p < j .size) (ms : List Met) (em : ms ≡ brought 64 (codeOf j) p) where

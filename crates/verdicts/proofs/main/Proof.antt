@@ -15,6 +15,9 @@ abbrev μ-loop : tie.MeasureT-loop
 buffer-requires : tie.Need-buffer-requires Inv-loop μ-loop
 buffer-requires c κs = search needs
 
+after-requires : tie.Need-after-requires Inv-loop μ-loop
+after-requires c κs = search needs
+
 loop-holds : tie.Need-loop-holds Inv-loop μ-loop
 loop-holds c = search needs
 
@@ -58,6 +61,7 @@ main-spec =
     Inv-loop
     μ-loop
     buffer-requires
+    after-requires
     loop-holds
     slice-aggregate-read-full
     read-full-requires

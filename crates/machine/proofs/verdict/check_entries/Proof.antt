@@ -1,10 +1,13 @@
--- What is known of the place decides;
--- with one height the entries are tested before the room.
+-- The checks stand in the definition's order: 8, 10, 9;
+-- the first fault found returns at once.
 use borrow.Author.Needs.{needs}
 use Rattle.machine.proofs.Laws.Tests.{test-laws}
 use Rattle.machine.proofs.Laws.Verdict.{entries-laws}
 use Rattle.machine.proofs.verdict.check_entries.Statement.{statement}
 use Rattle.machine.proofs.verdict.check_entries.Tie as tie
+
+check-led-requires : tie.Need-check-led-requires
+check-led-requires c κs = search needs
 
 enum-told : tie.Need-enum-told
 enum-told c = search needs
@@ -12,45 +15,38 @@ enum-told c = search needs
 enum-told-2 : tie.Need-enum-told-2
 enum-told-2 c = search needs
 
-enum-known-m : tie.Need-enum-known-m
-enum-known-m c = search needs
-
-finds-requires : tie.Need-finds-requires
-finds-requires c κs = search needs
-
 returns : tie.Need-returns
 returns c = search (entries-laws, test-laws, needs)
 
-cast-if2 : tie.Need-cast-if2
-cast-if2 c = search needs
+check-meeting-requires : tie.Need-check-meeting-requires
+check-meeting-requires c κs = search needs
 
-leaves-requires : tie.Need-leaves-requires
-leaves-requires c κs = search needs
+enum-told-3 : tie.Need-enum-told-3
+enum-told-3 c = search needs
+
+enum-told-4 : tie.Need-enum-told-4
+enum-told-4 c = search needs
 
 returns-2 : tie.Need-returns-2
 returns-2 c = search (entries-laws, test-laws, needs)
 
+check-height-requires : tie.Need-check-height-requires
+check-height-requires c κs = search needs
+
 returns-3 : tie.Need-returns-3
 returns-3 c = search (entries-laws, test-laws, needs)
-
-returns-4 : tie.Need-returns-4
-returns-4 c = search (entries-laws, test-laws, needs)
-
-returns-5 : tie.Need-returns-5
-returns-5 c = search (entries-laws, test-laws, needs)
 
 pub check-entries-spec : {M : Type 1} → statement M
 check-entries-spec =
     tie.close
     (tie.spec
+    check-led-requires
     enum-told
     enum-told-2
-    enum-known-m
-    finds-requires
     returns
-    cast-if2
-    leaves-requires
+    check-meeting-requires
+    enum-told-3
+    enum-told-4
     returns-2
-    returns-3
-    returns-4
-    returns-5)
+    check-height-requires
+    returns-3)

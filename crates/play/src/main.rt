@@ -1,0 +1,35 @@
+// Plays one session: its bytes from standard input, its text to standard output.
+use libc::STDIN_FILENO;
+use libc::STDOUT_FILENO;
+use sessions::play::play;
+ghost use mathlib.Core.Path.{_≡_};
+ghost use lib.ListN.{length};
+
+// Reads what is left, so that whoever writes to us is not cut off.
+fn drain() {
+    let mut bytes = io::large_buffer();
+    let mut reads = u64::MAX;
+    while reads > 0 {
+        if io::read_full(STDIN_FILENO, &mut bytes) == 0 {
+            return;
+        }
+        reads -= 1;
+    }
+}
+
+// Room for the longest text that a session can have (`text-short`).
+fn room() -> [u8; 204032]
+    ensures { λ r. ⌜ 204032 ≡ length r ⌝ }
+{
+    [0; 204032]
+}
+
+// The input has room for one byte more than a session may have, so that too long a one is seen.
+fn main() {
+    let mut input = [0u8; 16385];
+    let mut output = room();
+    let n = io::read_full(STDIN_FILENO, &mut input);
+    drain();
+    let size = play(&input[..n], &mut output);
+    io::write_all(STDOUT_FILENO, &output[..size]);
+}

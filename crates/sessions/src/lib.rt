@@ -1,0 +1,3 @@
+pub mod fields;
+pub mod play;
+pub mod text;
