@@ -8,11 +8,11 @@ use Prim.Native.Nat.{ℕ, zero, suc, _+_, _-_, _≤_, _<_}
 use native.Mathlib.Omega.{arith}
 use native.Mathlib.Decide.{ℕ-discrete}
 use borrow.Author.Tests.{eqb-true, eq-eqb, ne-eqb, lt-leb, le-leb, le-ltb}
-use lib.Dec.{eqb, leb, ltb}
+use lib.Dec.{eqb, leb}
 use lib.ListN.{length, getD, set, replicate, length-replicate, getD-replicate}
 use lib.Seq.{getD-set-same, getD-set-other}
 use Rattle.machine.specs.Instruction.{READ, WRITE, leadsOn, jumps, after}
-use Rattle.machine.specs.Able.{and-both}
+use Rattle.theory.specs.ReadSizes.{both}
 use Rattle.machine.specs.Verdict.{Finding, sound, fault, scan, at, count, formOf, formAt, endOf, meet, bring, lead, brought, entriesAt, sizeOf, flowOf, verdictOf}
 use Rattle.machine.specs.Passing.{not-sound, tooMany, sized, entered}
 use Rattle.machine.specs.declared.instruction.Instruction.{Instruction}
@@ -78,13 +78,13 @@ module _ (longest room few : ℕ) (is : List Instruction) where
     abbrev on : List Met
     on = bring (leadsOn (at is p)) (suc p) a (ms p)
 
-    abbrev both : List Met
-    both = bring (jumps (at is p)) (at is p .operand) a on
+    abbrev on-both : List Met
+    on-both = bring (jumps (at is p)) (at is p .operand) a on
 
     on-seen : (t : ℕ) → t < longest → Seen (onTo (at is p) p t) a (ms p) on t
     on-seen t l = bring-seen (leadsOn (at is p)) (suc p) a (ms p) t (rw (length-brought longest is p) l)
 
-    jump-seen : (t : ℕ) → t < longest → Seen (jumpsTo (at is p) t) a on both t
+    jump-seen : (t : ℕ) → t < longest → Seen (jumpsTo (at is p) t) a on on-both t
     jump-seen t l =
         bring-seen (jumps (at is p)) (at is p .operand) a on t
         (rw (length-bring (leadsOn (at is p)) (suc p) a (ms p), length-brought longest is p) l)
@@ -127,12 +127,12 @@ module _ (longest room few : ℕ) (is : List Instruction) where
     -- the height that is brought is the place's own
     on-height : (p t : ℕ) → p < n → onTo (at is p) p t ≡ true → after (at is p) (H p) ≡ H t
     on-height p t l e =
-        let w = and-both (leadsOn (at is p)) (eqb t (suc p)) e in
+        let w = both (leadsOn (at is p)) (eqb t (suc p)) e in
         rw (eqb-true t (suc p) (w .1)) (sym (K .on p l (w .0) .1))
 
     jump-height : (p t : ℕ) → p < n → jumpsTo (at is p) t ≡ true → after (at is p) (H p) ≡ H t
     jump-height p t l e =
-        let w = and-both (jumps (at is p)) (eqb t (at is p .operand)) e in
+        let w = both (jumps (at is p)) (eqb t (at is p .operand)) e in
         rw (eqb-true t (at is p .operand) (w .1)) (sym (K .jump p l (w .0) .2))
 
     module _ (p t : ℕ) (l : p < n) where
@@ -148,15 +148,15 @@ module _ (longest room few : ℕ) (is : List Instruction) where
           last q k w (no e) = none .1 q (omega arith) w
 
       -- the second bringing, from a place that has its height after the first, or that the first did not mean
-      has-done : getD (on p a) t Nobody ≡ Height (H t) → Seen (jumpsTo (at is p) t) a (on p a) (both p a) t → Has (suc p) t (both p a)
+      has-done : getD (on p a) t Nobody ≡ Height (H t) → Seen (jumpsTo (at is p) t) a (on p a) (on-both p a) t → Has (suc p) t (on-both p a)
       has-done e (inl w) = inl (w .1 ∙ ap (meet (getD (on p a) t Nobody)) (jump-height p t l (w .0)) ∙ meets t (getD (on p a) t Nobody) (inl e))
       has-done e (inr w) = inl (w .1 ∙ e)
 
-      has-other : getD (on p a) t Nobody ≡ Nobody → None p t → onTo (at is p) p t ≡ false → Seen (jumpsTo (at is p) t) a (on p a) (both p a) t → Has (suc p) t (both p a)
+      has-other : getD (on p a) t Nobody ≡ Nobody → None p t → onTo (at is p) p t ≡ false → Seen (jumpsTo (at is p) t) a (on p a) (on-both p a) t → Has (suc p) t (on-both p a)
       has-other e none f (inl w) = inl (w .1 ∙ ap (meet (getD (on p a) t Nobody)) (jump-height p t l (w .0)) ∙ meets t (getD (on p a) t Nobody) (inr e))
       has-other e none f (inr w) = inr (w .1 ∙ e, later-none none f (w .0))
 
-      has-next : Seen (onTo (at is p) p t) a (ms p) (on p a) t → Seen (jumpsTo (at is p) t) a (on p a) (both p a) t → Has p t (ms p) → Has (suc p) t (both p a)
+      has-next : Seen (onTo (at is p) p t) a (ms p) (on p a) t → Seen (jumpsTo (at is p) t) a (on p a) (on-both p a) t → Has p t (ms p) → Has (suc p) t (on-both p a)
       has-next (inl w) two (inl e) = has-done (w .1 ∙ ap (meet (getD (ms p) t Nobody)) (on-height p t l (w .0)) ∙ meets t (getD (ms p) t Nobody) (inl e)) two
       has-next (inl w) two (inr e) = has-done (w .1 ∙ ap (meet (getD (ms p) t Nobody)) (on-height p t l (w .0)) ∙ meets t (getD (ms p) t Nobody) (inr (e .0))) two
       has-next (inr w) two (inl e) = has-done (w .1 ∙ e) two
@@ -227,7 +227,7 @@ module _ (longest room few : ℕ) (is : List Instruction) where
       go (Clash h) w = w
       go (Height h) w =
           let b = after (at is p) h in
-          led-by p t b (on p b) (both p b) (jumpsTo (at is p) t) (or-right (onTo (at is p) p t) (jumpsTo (at is p) t)) (jump-seen p b t (omega arith))
+          led-by p t b (on p b) (on-both p b) (jumpsTo (at is p) t) (or-right (onTo (at is p) p t) (jumpsTo (at is p) t)) (jump-seen p b t (omega arith))
           (led-by p t b (ms p) (on p b) (onTo (at is p) p t) (or-left (onTo (at is p) p t) (jumpsTo (at is p) t)) (on-seen p b t (omega arith)) w)
 
   pub passes-good : verdictOf longest room few is ≡ sound → Good longest room few is

@@ -13,7 +13,7 @@ use lib.ListN.{length, getD, set, replicate, length-set, length-replicate}
 use lib.Seq.{getD-set-same, getD-set-other, set-out}
 use Rattle.machine.specs.Instruction.{READ, WRITE, known, fits, leadsOn, jumps, need, after}
 use Rattle.machine.specs.Able.{jump-place}
-use Rattle.machine.specs.Verdict.{Finding, sound, at, count, meet, bring, lead, brought, entriesOf, entriesAt, verdictOf}
+use Rattle.machine.specs.Verdict.{sound, at, count, meet, bring, lead, brought, entriesOf, entriesAt, verdictOf}
 use Rattle.machine.specs.Passing.{not-sound, entries-sound, tooMany, Formed, sized, formed, goes-on, entered}
 use Rattle.machine.specs.declared.instruction.Instruction.{Instruction}
 use Rattle.machine.specs.declared.verdict.Met.{Met}

@@ -6,15 +6,16 @@ use mathlib.Core.Bool.{Bool, true, false, not, cond, _&&_, _||_}
 use mathlib.Core.List.{List, [], _∷_}
 use Prim.Native.Nat.{ℕ, zero, suc, _+_, _-_, _≤_, _<_}
 use native.Mathlib.Omega.{arith}
-use borrow.Author.Tests.{eqb-true, eqb-false, eq-eqb, ne-eqb, le-leb, lt-ltb, ltb-true}
+use borrow.Author.Tests.{eqb-true, eq-eqb, ne-eqb, le-leb, lt-ltb, ltb-true}
 use lib.Dec.{eqb, leb, ltb}
-use lib.ListN.{length, getD}
+use lib.ListN.{length}
 use Rattle.theory.specs.Promise.{Act, nothing, read, write, stop, abandon, stuck, Machine, Promise, Checked, Passed}
 use Rattle.theory.specs.Run.{Run, begin, by-nothing, by-read, by-write, run-keeps, RunsWell, runs-well}
 use Rattle.machine.specs.Limits.{LONGEST, ROOM, FEW, CELLS}
-use Rattle.machine.specs.Instruction.{STOP, ABANDON, READ, WRITE, JUMP, JUMPZERO, known, fits, leadsOn, jumps, need, after}
-use Rattle.machine.specs.Machine.{State, start, cellOf, top, next, stackAfter, placeAfter, moved, placed, suffices, ready, asked, act, Running, stopping, current, inJob, starting, formed, sizes, machine}
-use Rattle.machine.specs.Able.{and-both, Ready, ready-all, jump-place}
+use Rattle.machine.specs.Instruction.{STOP, ABANDON, READ, WRITE, JUMP, JUMPZERO, known, leadsOn, jumps, need, after}
+use Rattle.machine.specs.Machine.{State, cellOf, top, next, stackAfter, placeAfter, moved, placed, suffices, ready, asked, act, Running, current, inJob, starting, formed, sizes, machine}
+use Rattle.theory.specs.ReadSizes.{both}
+use Rattle.machine.specs.Able.{Ready, ready-all, jump-place}
 use Rattle.machine.specs.Verdict.{sound, at, count, verdictOf, jobVerdict}
 use Rattle.machine.specs.Passing.{sized}
 use Rattle.machine.specs.declared.instruction.Instruction.{Instruction}
@@ -113,8 +114,8 @@ module _ (longest room : ℕ) where
   keeps-sizes : (j : Running) (v : ℕ) → Able j → Ends (current j) ≡ false → sizes longest room j ≡ true → sizes longest room (movedIn j v) ≡ true
   unfolding sizes moved leadsOn
   keeps-sizes j v r no-end f =
-      let a = and-both (leb n longest && formed (j .code) n n && ltb (j .state .place) n) (leb (length (j .state .stack)) room) f in
-      let b = and-both (leb n longest && formed (j .code) n n) (ltb (j .state .place) n) (a .0) in
+      let a = both (leb n longest && formed (j .code) n n && ltb (j .state .place) n) (leb (length (j .state .stack)) room) f in
+      let b = both (leb n longest && formed (j .code) n n) (ltb (j .state .place) n) (a .0) in
       rw (b .0, lt-ltb _ n (inside (way (current j) (j .state) no-end)), le-leb _ room high) refl
     where
       n : ℕ

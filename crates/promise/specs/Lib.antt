@@ -4,4 +4,3 @@ pub mod Heights
 pub mod Keeps
 pub mod Exactly
 pub mod Papers
-pub mod Edge

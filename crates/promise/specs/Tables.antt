@@ -1,6 +1,6 @@
 -- The tables by code are tied to the instructions by one test that is computed over all codes:
 -- the change in height is what an instruction puts less what it takes.
-use mathlib.Core.Path.{_≡_, refl, ap, sym, _∙_}
+use mathlib.Core.Path.{_≡_, refl, sym, _∙_}
 use mathlib.Core.Bool.{Bool, true, false, cond, _&&_}
 use mathlib.Core.List.{List, [], _∷_, _++_, map}
 use Prim.Native.Nat.{ℕ, zero, suc, _+_, _-_, _≤_, _<_}
@@ -11,7 +11,7 @@ use lib.Dec.{eqb}
 use lib.ListN.{length, getD, drop, set, length-append, length-drop, length-set, List·getD-map}
 use Rattle.machine.specs.Instruction.{SWAP, needs, changes, known, need, after}
 use Rattle.machine.specs.Machine.{top, puts, stays, stackAfter}
-use Rattle.machine.specs.Able.{and-both}
+use Rattle.theory.specs.ReadSizes.{both}
 use Rattle.machine.specs.declared.instruction.Instruction.{Instruction}
 
 -- by code: how many entries an instruction puts
@@ -27,7 +27,7 @@ all (suc n) f = f n && all n f
 
 all-at : (n : ℕ) (f : ℕ → Bool) → all n f ≡ true → (k : ℕ) → k < n → f k ≡ true
 all-at zero f e k l = absurd (omega arith)
-all-at (suc n) f e k l = let w = and-both (f n) (all n f) e in go (ℕ-discrete k n) (w .0) (all-at n f (w .1) k)
+all-at (suc n) f e k l = let w = both (f n) (all n f) e in go (ℕ-discrete k n) (w .0) (all-at n f (w .1) k)
   where
     go : Dec (k ≡ n) → f n ≡ true → (k < n → f k ≡ true) → f k ≡ true
     go (yes q) w ih = rw q w
