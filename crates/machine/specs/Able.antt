@@ -1,4 +1,5 @@
 -- What a ready instruction finds, as facts for the code that does it.
+use Rattle.theory.specs.ReadSizes.{both}
 use mathlib.Core.Path.{_≡_, refl}
 use mathlib.Core.Bool.{Bool, true, false, not, _&&_, _||_}
 use Prim.Native.Nat.{ℕ, suc, _≤_, _<_}
@@ -6,7 +7,7 @@ use native.Mathlib.Omega.{arith}
 use lib.Dec.{eqb, leb, ltb}
 use lib.ListN.{length, getD}
 use borrow.Author.Tests.{ltb-true, leb-true, eqb-true}
-use Rattle.machine.specs.Instruction.{columns, inColumn, known, fits, leadsOn, jumps, need, after, JUMP, JUMPZERO}
+use Rattle.machine.specs.Instruction.{columns, known, fits, leadsOn, jumps, need, after, JUMP, JUMPZERO}
 use Rattle.machine.specs.Machine.{State, placed, suffices, ready}
 use Rattle.machine.specs.declared.instruction.Instruction.{Instruction}
 
@@ -18,10 +19,6 @@ pub record Able (i : Instruction) (s : State) : Type 0 where
   pub within : length (s .stack) ≤ 16
   pub enough : need i ≤ length (s .stack)
   pub room : after i (length (s .stack)) ≤ 16
-
-pub and-both : (a b : Bool) → a && b ≡ true → (a ≡ true) × (b ≡ true)
-and-both true b e = (refl, e)
-and-both false b e = (e, cc)
 
 -- the tests of `ready`, one by one
 pub record Ready (room n : ℕ) (i : Instruction) (s : State) : Type 0 where
@@ -37,12 +34,12 @@ pub ready-all : (room n : ℕ) (i : Instruction) (s : State) → ready room n i 
 unfolding ready placed suffices known
 ready-all room n i s e =
     let h = length (s .stack) in
-    let a = and-both (placed n i (s .place)) (suffices room i h) e in
-    let b = and-both _ (not (leadsOn i) || ltb (suc (s .place)) n) (a .0) in
-    let c = and-both _ (fits n (s .place) i) (b .0) in
-    let d = and-both (ltb (s .place) n) (known i) (c .0) in
-    let f = and-both _ (leb (after i h) room) (a .1) in
-    let g = and-both (leb h room) (leb (need i) h) (f .0) in
+    let a = both (placed n i (s .place)) (suffices room i h) e in
+    let b = both _ (not (leadsOn i) || ltb (suc (s .place)) n) (a .0) in
+    let c = both _ (fits n (s .place) i) (b .0) in
+    let d = both (ltb (s .place) n) (known i) (c .0) in
+    let f = both _ (leb (after i h) room) (a .1) in
+    let g = both (leb h room) (leb (need i) h) (f .0) in
     record {
       inside = ltb-true _ _ (d .0);
       code = leb-true _ _ (d .1);
@@ -56,11 +53,11 @@ ready-all room n i s e =
 module _ (n p : ℕ) (i : Instruction) (e : fits n p i ≡ true) where
   pub in-count : getD columns (i .code) 0 ≡ 2 → (1 ≤ i .operand) × (i .operand ≤ 15)
   unfolding fits
-  in-count q = let w = and-both (leb 1 (i .operand)) (leb (i .operand) 15) (rw q at e) in (leb-true _ _ (w .0), leb-true _ _ (w .1))
+  in-count q = let w = both (leb 1 (i .operand)) (leb (i .operand) 15) (rw q at e) in (leb-true _ _ (w .0), leb-true _ _ (w .1))
 
   pub in-place : getD columns (i .code) 0 ≡ 3 → (p < i .operand) × (i .operand < n)
   unfolding fits
-  in-place q = let w = and-both (ltb p (i .operand)) (ltb (i .operand) n) (rw q at e) in (ltb-true _ _ (w .0), ltb-true _ _ (w .1))
+  in-place q = let w = both (ltb p (i .operand)) (ltb (i .operand) n) (rw q at e) in (ltb-true _ _ (w .0), ltb-true _ _ (w .1))
 
 -- a jump whose operand is in its column leads to a later place in the job
 pub jump-place : (n p : ℕ) (i : Instruction) → fits n p i ≡ true → jumps i ≡ true → (p < i .operand) × (i .operand < n)

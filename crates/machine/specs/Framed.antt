@@ -1,11 +1,11 @@
 -- What a field whose frame passed tells: it is whole, a job is still allowed, and its length is a sound one.
 use mathlib.Core.Path.{_≡_, refl, ap}
-use mathlib.Core.Bool.{Bool, true, false, not, cond, _||_}
+use mathlib.Core.Bool.{not, _||_}
 use mathlib.Core.List.{List}
 use Prim.Native.Nat.{ℕ, zero, suc, _+_, _/_, _%_, _≤_, _<_}
 use native.Mathlib.Omega.{arith}
 use lib.Dec.{eqb, ltb}
-use lib.ListN.{length, getD, drop}
+use lib.ListN.{length, drop}
 use borrow.Author.Tests.{not-false, ltb-false, eqb-false, eqb-true}
 use Rattle.machine.specs.Passing.{unless-sound, or-none}
 use Rattle.machine.specs.Verdict.{sound}

@@ -1,5 +1,5 @@
 -- Document 01, "The block paper": one instruction on a place and a stack, as a program on lists. A stack is a list, top first.
-use mathlib.Core.Bool.{Bool, true, false, not, cond, _&&_, _||_}
+use mathlib.Core.Bool.{Bool, true, not, cond, _&&_, _||_}
 use mathlib.Core.List.{List, [], _∷_, _++_}
 use Prim.Native.Nat.{ℕ, zero, suc, _+_, _-_, _%_, _^_}
 use lib.Dec.{eqb, leb, ltb}

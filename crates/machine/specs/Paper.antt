@@ -1,5 +1,5 @@
 -- Document 01, "The block paper" and "The checker's verdict": the verdict of a whole paper, field by field.
-use mathlib.Core.Bool.{Bool, true, false, not, cond, _||_}
+use mathlib.Core.Bool.{not, cond, _||_}
 use mathlib.Core.List.{List, [], _∷_}
 use Prim.Native.Nat.{ℕ, zero, suc, _+_, _*_, _/_, _%_}
 use lib.Dec.{eqb, ltb}

@@ -1,19 +1,18 @@
 -- What each check of a job tells once it has found nothing: the tests that it made all passed.
 use mathlib.Core.Path.{_≡_, refl}
-use mathlib.Core.Bool.{Bool, true, false, not, cond, _&&_, _||_}
+use mathlib.Core.Bool.{Bool, true, false, cond, _&&_, _||_}
 use mathlib.Core.List.{List}
 use Prim.Native.Nat.{ℕ, zero, suc, _+_, _-_, _≤_, _<_}
 use native.Mathlib.Omega.{arith}
 use native.Mathlib.Decide.{ℕ-discrete}
 use borrow.Author.Tests.{leb-true, ltb-false, eqb-false}
 use lib.Dec.{eqb, leb, ltb}
-use lib.ListN.{length, getD}
+use lib.ListN.{length}
 use Rattle.machine.specs.Instruction.{READ, WRITE, known, fits, leadsOn, need, after}
-use Rattle.machine.specs.Able.{and-both}
+use Rattle.theory.specs.ReadSizes.{both}
 use Rattle.machine.specs.Verdict.{Finding, sound, fault, andThen, scan, at, count, formOf, formAt, endOf, entriesOf, entriesAt, sizeOf, flowOf, verdictOf}
 use Rattle.machine.specs.declared.instruction.Instruction.{Instruction}
-use Rattle.machine.specs.declared.verdict.Met.{Met}
-use Rattle.machine.specs.declared.verdict.Met.the-variants.{Nobody, Height, Clash}
+use Rattle.machine.specs.declared.verdict.Met.the-variants.{Height}
 
 pub not-sound : {n p : ℕ} → fault n p ≡ sound → ⊥
 not-sound e = let z : _≡_ {A = ℕ} 0 1 = cc in omega arith
@@ -73,7 +72,7 @@ end-sound is end some p l e = go (ℕ-discrete p (length is - 1))
 
 pub entries-sound : (room : ℕ) (i : Instruction) (p h : ℕ) → entriesOf room i p (Height h) ≡ sound → (need i ≤ h) × (after i h ≤ room)
 entries-sound room i p h e =
-    let w = and-both (leb (need i) h) (leb (after i h) room) (if-sound _ sound 9 p e .0) in
+    let w = both (leb (need i) h) (leb (after i h) room) (if-sound _ sound 9 p e .0) in
     (leb-true _ _ (w .0), leb-true _ _ (w .1))
 
 pub size-sound : (longest n : ℕ) → sizeOf longest n ≡ sound → (0 < n) × (n ≤ longest)

@@ -1,9 +1,9 @@
 -- How long a session's text can be: at most 4,000 lines of turns and 256 of cells, each of numbers that have at most 20 digits.
 -- So a buffer of TEXT bytes holds the whole of it.
-use mathlib.Core.Path.{_≡_, refl, ap, sym, _∙_}
+use mathlib.Core.Path.{_≡_, refl, ap, _∙_}
 use mathlib.Core.Bool.{Bool, true, false, cond, _&&_}
 use mathlib.Core.List.{List, [], _∷_, _++_, append-assoc}
-use Prim.Native.Nat.{ℕ, zero, suc, _+_, _*_, _/_, _%_, _≤_, min}
+use Prim.Native.Nat.{ℕ, zero, suc, _+_, _*_, _/_, _%_, _≤_}
 use native.Mathlib.Omega.{arith}
 use lib.Dec.{eqb, leb, ltb}
 use lib.ListN.{length, take, drop, set, length-append, length-map, length-drop}
@@ -15,7 +15,7 @@ use Rattle.machine.specs.Machine.{Running}
 use Rattle.machine.specs.Paper.{size, later}
 use Rattle.turns.specs.Box.{box, limits}
 use Rattle.turns.specs.Open.{openAnswer, openBlock}
-use Rattle.sessions.specs.Text.{space, newline, digits, decimal, wordText, spaced, lastOf, named, turnLine, cellLine, cellLines, whereOf, refusedLine, put, Puts}
+use Rattle.sessions.specs.Text.{space, newline, digits, decimal, wordText, spaced, lastOf, named, turnLine, cellLine, cellLines, whereOf, refusedLine, put}
 use Rattle.sessions.specs.Fields.{Session, session, malformed, isField, isTurns, paperLength, afterCells, cellIn, valueIn, isNextCell, cellFields, fromCell, zeros, sessionOf}
 use Rattle.sessions.specs.Session.{turnLines, played, unlessRefused, textOf, sessionText, Plays}
 

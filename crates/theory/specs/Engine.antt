@@ -1,6 +1,6 @@
 -- Document 01, "One turn": the plain engine over any machine, any number of jobs and cells. Everything is executable.
 -- The job at place k of a block has ticket k + 1; ticket 0 is the start table.
-use mathlib.Core.Bool.{Bool, true, false, not, cond, _&&_, _||_}
+use mathlib.Core.Bool.{Bool, true, false, cond, _&&_, _||_}
 use mathlib.Core.Option.{Option, none, some}
 use mathlib.Core.List.{List, [], _∷_, _++_, map}
 use Prim.Native.Nat.{ℕ, zero, suc, _+_, _-_}

@@ -1,9 +1,9 @@
 -- What the promise says of a whole run. Each instruction spends what is left, so a run cannot be longer than what was left at its start.
-use mathlib.Core.Path.{_≡_, refl}
+use mathlib.Core.Path.{_≡_}
 use mathlib.Core.Logic.{_≢_}
 use Prim.Native.Nat.{ℕ, suc, _+_, _≤_, _<_}
 use native.Mathlib.Omega.{arith}
-use Rattle.theory.specs.Promise.{Act, nothing, read, write, stop, abandon, stuck, Machine, Promise, Checked, Passed}
+use Rattle.theory.specs.Promise.{nothing, read, write, stuck, Machine, Promise, Checked, Passed}
 
 module _ (M : Machine) where
   open Machine M using (S, act, given, left)

@@ -7,6 +7,7 @@ pub mod Moves
 pub mod Own
 pub mod Solo
 pub mod Alone
+pub mod Accepted
 pub mod Serial
 pub mod Turn
 pub mod Open

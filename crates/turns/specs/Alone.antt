@@ -5,6 +5,7 @@ use mathlib.Core.List.{List, []}
 use Prim.Native.Nat.{ℕ, suc, _+_, _≤_, _<_}
 use lib.ListN.{length, getD}
 use Rattle.theory.specs.Promise.{Passed}
+use Rattle.theory.specs.Every.{Every}
 use Rattle.theory.specs.Serial.{over, solo, alone, serial}
 use Rattle.machine.specs.Limits.{ROOM, FEW, CELLS}
 use Rattle.machine.specs.Machine.{start, current, starting}
@@ -13,7 +14,6 @@ use Rattle.machine.specs.declared.instruction.Instruction.{Instruction}
 use Rattle.machine.specs.declared.job.Job.{Job}
 use Rattle.machine.specs.declared.job.State.{State}
 use Rattle.machine.specs.declared.step.Stepped.{Stepped}
-use Rattle.promise.specs.Papers.{All}
 use Rattle.turns.specs.Box.{box, boxChecked}
 use Rattle.turns.specs.View.{journalOf}
 use Rattle.turns.specs.Block.{runningOf}
@@ -28,7 +28,7 @@ pub record StepsIn (is : List Instruction) (s : State) (r : Stepped) : Type 0 wh
 -- a journal of few entries, each for a cell of the table
 pub record Writes (j : Journal) : Type 0 where
   pub few : j .size ≤ FEW
-  pub cells : All (λ e. e .cell < CELLS) (journalOf j)
+  pub cells : Every (λ e. e .cell < CELLS) (journalOf j)
 
 -- the journal that a job leaves: over the table, it is the job alone
 pub record Leaves (is : List Instruction) (table : ℕ → ℕ) (j : Journal) : Type 0 where

@@ -15,6 +15,7 @@ use Rattle.theory.specs.Promise.{Passed}
 use Rattle.theory.specs.Engine as E
 use Rattle.theory.specs.Every.{Every}
 use Rattle.theory.specs.Serial.{serial}
+use Rattle.theory.specs.Finals.{finalTurns}
 use Rattle.theory.specs.TurnsNeeded.{occurs}
 use Rattle.theory.specs.SettledIsSerial as S
 use Rattle.theory.specs.NeverStuck as N
@@ -64,9 +65,13 @@ module _ (start paper : List ℕ) (js : List (List Instruction)) (whole : length
       E.settled limits box (after ts) ≡ map (serial box (cellsOf start) (λ k. starting (getD js k [])) (E.finals limits box (after ts .jobs))) (E.upTo limits box CELLS)
   settled-is-serial ts = rw (opens, ← fun-ext starts) (S.settled-is-serial limits box box-promise start (map starting js) ts)
 
+  -- .. and f is the number of turns whose word was final
+  pub f-counts-finals : (ts : List ℕ) → E.finals limits box (after ts .jobs) ≡ finalTurns limits box (openBlock start paper) ts
+  f-counts-finals ts = rw opens (S.f-counts-finals limits box start (map starting js) ts)
+
   -- demand 3: no turn is stuck
-  pub never-stuck : (ts : List ℕ) (t : ℕ) → E.turn limits box (after ts) t .word ≢ W.stuck
-  never-stuck ts t = rw opens (N.checked-never-stuck limits box box-promise boxChecked start (map starting js) few passed ts t)
+  pub checked-never-stuck : (ts : List ℕ) (t : ℕ) → E.turn limits box (after ts) t .word ≢ W.stuck
+  checked-never-stuck ts t = rw opens (N.checked-never-stuck limits box box-promise boxChecked start (map starting js) few passed ts t)
 
   -- demand 3: a job of L instructions whose predecessors are final is final after L + 1 further turns of its own
   pub final-within : (ts more : List ℕ) (i : ℕ) → i < length js → ((k : ℕ) → k < i → E.jobAt limits box (after ts) k .status ≡ E.final)

@@ -11,15 +11,15 @@ use lib.ListN.{getD}
 use borrow.Author.Tests.{leb-true, ltb-true, eqb-true}
 use Rattle.theory.specs.Engine as E
 use Rattle.theory.specs.Engine.{blockFits}
-use Rattle.machine.specs.Able.{and-both}
+use Rattle.theory.specs.ReadSizes.{both}
 use Rattle.machine.specs.Limits.{LONGEST, ROOM, FEW, JOBS, CELLS}
 use Rattle.machine.specs.View.{noJob}
 use Rattle.machine.specs.declared.job.Job.{Job}
 use Rattle.machine.specs.declared.job.State.{State}
 use Rattle.turns.specs.Box.{limits, box}
 use Rattle.turns.specs.Block.{noState, noCheckpoint, blockOf}
-use Rattle.turns.specs.View.{Showing, placeAt, place-low, place-past, markOf, noEntry, noJournal, noVersions, noRead, noReads}
-use Rattle.turns.specs.Sizes.{passes, codeWithin, standsIn, entryWithin, entryWithinAt, journalWithin, versionWithinAt, versionsWithin, readWithin, risesFrom, readsWithin, markWithin, jobWithin, jobWithinAt, block-is}
+use Rattle.turns.specs.View.{Showing, placeAt, place-low, place-past, markOf, noJournal, noVersions, noRead, noReads}
+use Rattle.turns.specs.Sizes.{passes, codeWithin, standsIn, journalWithin, versionWithinAt, versionsWithin, readWithin, risesFrom, readsWithin, markWithin, jobWithin, jobWithinAt, block-is}
 use Rattle.turns.specs.declared.block.Journal.{Journal}
 use Rattle.turns.specs.declared.block.Versions.{Versions}
 use Rattle.turns.specs.declared.block.Read.{Read}
@@ -31,16 +31,10 @@ use Rattle.turns.specs.declared.block.Block.{Block}
 pub record Fit (b : Block) (k : ℕ) : Type 0 where
   pub code : getD (b .jobs) k noJob .size ≤ 64
   pub place : getD (b .states) k noState .place .0 < getD (b .jobs) k noJob .size
-  pub height : getD (b .states) k noState .stack .height ≤ 16
   pub journal : getD (b .journals) k noJournal .size ≤ 8
-  pub entry-cell : (i : ℕ) → i < getD (b .journals) k noJournal .size → getD (getD (b .journals) k noJournal .entries) i noEntry .cell .0 < 256
-  pub named : (i : ℕ) → i < getD (b .versions) k noVersions .size → getD (getD (b .versions) k noVersions .places) i 0 < getD (b .journals) k noJournal .size
   pub showing : Showing (getD (b .journals) k noJournal) (getD (b .versions) k noVersions)
   pub reads : getD (b .reads) k noReads .size ≤ 8
   pub mark : (getD (b .reads) k noReads .mark ≡ 255) ⊎ (getD (b .reads) k noReads .mark < getD (b .reads) k noReads .size)
-  pub read-cell : (i : ℕ) → i < getD (b .reads) k noReads .size → getD (getD (b .reads) k noReads .reads) i noRead .cell .0 < 256
-  pub back-place : (i : ℕ) → i < getD (b .reads) k noReads .size → getD (b .checkpoints) (8 * k + i) noCheckpoint .state .place .0 < getD (b .jobs) k noJob .size
-  pub back-height : (i : ℕ) → i < getD (b .reads) k noReads .size → getD (b .checkpoints) (8 * k + i) noCheckpoint .state .stack .height ≤ 16
   pub back-listed : (i : ℕ) → i < getD (b .reads) k noReads .size → getD (b .checkpoints) (8 * k + i) noCheckpoint .listed ≤ i
   pub back-writes : (i : ℕ) → i < getD (b .reads) k noReads .size → getD (b .checkpoints) (8 * k + i) noCheckpoint .writes ≤ getD (b .journals) k noJournal .size
 
@@ -49,16 +43,16 @@ passes-at : (f : ℕ → Bool) (k m : ℕ) → passes f k m ≡ true → (i : �
 unfolding passes
 passes-at f k zero e i l u = absurd (omega arith)
 passes-at f k (suc m) e i l u =
-    let w = and-both (f k) (passes f (suc k) m) e in
+    let w = both (f k) (passes f (suc k) m) e in
     go (ℕ-discrete i k) (w .0) (λ n. passes-at f (suc k) m (w .1) i (omega arith) (omega arith))
   where
     go : Dec (i ≡ k) → f k ≡ true → ((i ≡ k → ⊥) → f i ≡ true) → f i ≡ true
     go (yes q) h r = rw q h
     go (no q) h r = r q
 
-stands : (n : ℕ) (s : State) → standsIn n s ≡ true → (s .place .0 < n) × (s .stack .height ≤ 16)
+stands : (n : ℕ) (s : State) → standsIn n s ≡ true → s .place .0 < n
 unfolding standsIn
-stands n s e = let w = and-both (ltb (s .place .0) n) (leb (s .stack .height) ROOM) e in (ltb-true _ _ (w .0), leb-true _ _ (w .1))
+stands n s e = ltb-true _ _ (both (ltb (s .place .0) n) (leb (s .stack .height) ROOM) e .0)
 
 mark-within : (m n : ℕ) → markWithin m n ≡ true → (m ≡ 255) ⊎ (m < n)
 unfolding markWithin markOf
@@ -70,9 +64,6 @@ mark-within m n = go (eqb m 255) refl
 
 -- a listed read and its checkpoint, of a job of n instructions, with entries from `least` to `most`
 record ReadFit (n i least most : ℕ) (r : Read) (c : Checkpoint) : Type 0 where
-  cell : r .cell .0 < 256
-  place : c .state .place .0 < n
-  height : c .state .stack .height ≤ 16
   listed : c .listed ≤ i
   above : least ≤ c .writes
   writes : c .writes ≤ most
@@ -80,18 +71,16 @@ record ReadFit (n i least most : ℕ) (r : Read) (c : Checkpoint) : Type 0 where
 read-within : (n before i most : ℕ) (r : Read) (c : Checkpoint) → readWithin n before i r c ≡ true → c .writes ≤ most → ReadFit n i before most r c
 unfolding readWithin
 read-within n before i most r c e l =
-    let a = and-both (ltb (r .cell .0) CELLS && standsIn n (c .state) && leb (c .listed) i) (leb before (c .writes)) e in
-    let d = and-both (ltb (r .cell .0) CELLS && standsIn n (c .state)) (leb (c .listed) i) (a .0) in
-    let f = and-both (ltb (r .cell .0) CELLS) (standsIn n (c .state)) (d .0) in
-    let s = stands n (c .state) (f .1) in
-    record { cell = ltb-true _ _ (f .0); place = s .0; height = s .1; listed = leb-true _ _ (d .1); above = leb-true _ _ (a .1); writes = l }
+    let a = both (ltb (r .cell .0) CELLS && standsIn n (c .state) && leb (c .listed) i) (leb before (c .writes)) e in
+    let d = both (ltb (r .cell .0) CELLS && standsIn n (c .state)) (leb (c .listed) i) (a .0) in
+    record { listed = leb-true _ _ (d .1); above = leb-true _ _ (a .1); writes = l }
 
 module _ (n entries : ℕ) (rs : Reads) (cs : ℕ → Checkpoint) where
   rises-within : (before i m : ℕ) → risesFrom n entries rs cs before i m ≡ true → before ≤ entries
   unfolding risesFrom
   rises-within before i zero e = leb-true _ _ e
   rises-within before i (suc m) e =
-      let w = and-both (readWithin n before i (getD (rs .reads) i noRead) (cs i)) _ e in
+      let w = both (readWithin n before i (getD (rs .reads) i noRead) (cs i)) _ e in
       let r = read-within n before i _ (getD (rs .reads) i noRead) (cs i) (w .0) (rises-within (cs i .writes) (suc i) m (w .1)) in
       omega (arith, r .above, r .writes)
 
@@ -99,10 +88,10 @@ module _ (n entries : ℕ) (rs : Reads) (cs : ℕ → Checkpoint) where
   unfolding risesFrom
   rises-at before i zero e x l u = absurd (omega arith)
   rises-at before i (suc m) e x l u =
-      let w = and-both (readWithin n before i (getD (rs .reads) i noRead) (cs i)) _ e in
+      let w = both (readWithin n before i (getD (rs .reads) i noRead) (cs i)) _ e in
       let r = read-within n before i _ (getD (rs .reads) i noRead) (cs i) (w .0) (rises-within (cs i .writes) (suc i) m (w .1)) in
       go (ℕ-discrete x i)
-      (record { cell = r .cell; place = r .place; height = r .height; listed = r .listed; above = omega arith; writes = r .writes })
+      (record { listed = r .listed; above = omega arith; writes = r .writes })
       (λ o. rises-at (cs i .writes) (suc i) m (w .1) x (omega arith) (omega arith))
     where
       go : Dec (x ≡ i) → ReadFit n i 0 entries (getD (rs .reads) i noRead) (cs i) → ((x ≡ i → ⊥) → ReadFit n x 0 entries (getD (rs .reads) x noRead) (cs x))
@@ -112,16 +101,11 @@ module _ (n entries : ℕ) (rs : Reads) (cs : ℕ → Checkpoint) where
 
 code-few : (j : Job) → codeWithin j ≡ true → j .size ≤ 64
 unfolding codeWithin
-code-few j e = leb-true _ _ (and-both (leb (j .size) LONGEST) _ e .0)
+code-few j e = leb-true _ _ (both (leb (j .size) LONGEST) _ e .0)
 
 journal-few : (jo : Journal) → journalWithin jo ≡ true → jo .size ≤ 8
 unfolding journalWithin
-journal-few jo e = leb-true _ _ (and-both (leb (jo .size) FEW) _ e .0)
-
-entries-within : (jo : Journal) → journalWithin jo ≡ true → (i : ℕ) → i < jo .size → getD (jo .entries) i noEntry .cell .0 < 256
-unfolding journalWithin entryWithin
-entries-within jo e i l =
-    ltb-true _ _ (passes-at (entryWithinAt jo) 0 (jo .size) (and-both (leb (jo .size) FEW) _ e .1) i (omega arith) (omega arith))
+journal-few jo e = leb-true _ _ (both (leb (jo .size) FEW) _ e .0)
 
 versions-within : (n : ℕ) (v : Versions) → versionsWithin n v ≡ true → (i : ℕ) → i < v .size → placeAt v i < n
 unfolding versionsWithin
@@ -142,16 +126,16 @@ showing j v a e =
 
 reads-few : (n entries : ℕ) (rs : Reads) (cs : ℕ → Checkpoint) → readsWithin n entries rs cs ≡ true → rs .size ≤ 8
 unfolding readsWithin
-reads-few n entries rs cs e = leb-true _ _ (and-both (leb (rs .size) FEW) _ e .0)
+reads-few n entries rs cs e = leb-true _ _ (both (leb (rs .size) FEW) _ e .0)
 
 reads-within : (n entries : ℕ) (rs : Reads) (cs : ℕ → Checkpoint) → readsWithin n entries rs cs ≡ true → (i : ℕ) → i < rs .size
     → ReadFit n i 0 entries (getD (rs .reads) i noRead) (cs i)
 unfolding readsWithin
-reads-within n entries rs cs e i l = rises-at n entries rs cs 0 0 (rs .size) (and-both (leb (rs .size) FEW) _ e .1) i (omega arith) (omega arith)
+reads-within n entries rs cs e i l = rises-at n entries rs cs 0 0 (rs .size) (both (leb (rs .size) FEW) _ e .1) i (omega arith) (omega arith)
 
 -- ---- the block
 pub count-fit : (b : Block) → blockFits limits box (blockOf b) ≡ true → b .count ≤ 16
-count-fit b e = leb-true _ _ (and-both (leb (b .count) JOBS) _ (sym (block-is b) ∙ e) .0)
+count-fit b e = leb-true _ _ (both (leb (b .count) JOBS) _ (sym (block-is b) ∙ e) .0)
 
 -- the tests of one job, one by one
 record Tested (b : Block) (k : ℕ) : Type 0 where
@@ -165,35 +149,27 @@ record Tested (b : Block) (k : ℕ) : Type 0 where
 tested : (b : Block) (k : ℕ) → jobWithinAt b k ≡ true → Tested b k
 unfolding jobWithin
 tested b k e =
-    let a = and-both _ (markWithin (getD (b .reads) k noReads .mark) (getD (b .reads) k noReads .size)) e in
-    let c = and-both _ (readsWithin (getD (b .jobs) k noJob .size) (getD (b .journals) k noJournal .size) (getD (b .reads) k noReads) (λ i. getD (b .checkpoints) (8 * k + i) noCheckpoint)) (a .0) in
-    let d = and-both _ (versionsWithin (getD (b .journals) k noJournal .size) (getD (b .versions) k noVersions)) (c .0) in
-    let f = and-both _ (journalWithin (getD (b .journals) k noJournal)) (d .0) in
-    let g = and-both (codeWithin (getD (b .jobs) k noJob)) (standsIn (getD (b .jobs) k noJob .size) (getD (b .states) k noState)) (f .0) in
+    let a = both _ (markWithin (getD (b .reads) k noReads .mark) (getD (b .reads) k noReads .size)) e in
+    let c = both _ (readsWithin (getD (b .jobs) k noJob .size) (getD (b .journals) k noJournal .size) (getD (b .reads) k noReads) (λ i. getD (b .checkpoints) (8 * k + i) noCheckpoint)) (a .0) in
+    let d = both _ (versionsWithin (getD (b .journals) k noJournal .size) (getD (b .versions) k noVersions)) (c .0) in
+    let f = both _ (journalWithin (getD (b .journals) k noJournal)) (d .0) in
+    let g = both (codeWithin (getD (b .jobs) k noJob)) (standsIn (getD (b .jobs) k noJob .size) (getD (b .states) k noState)) (f .0) in
     record { code = g .0; state = g .1; journal = f .1; versions = d .1; reads = c .1; mark = a .1 }
 
 fit : (b : Block) (k : ℕ) → Tested b k → Fit b k
 fit b k t =
-    let s = stands _ (getD (b .states) k noState) (t .state) in
-    let v = showing (getD (b .journals) k noJournal) (getD (b .versions) k noVersions) (t .journal) (t .versions) in
     let r = reads-within _ _ (getD (b .reads) k noReads) (λ i. getD (b .checkpoints) (8 * k + i) noCheckpoint) (t .reads) in
     record {
       code = code-few _ (t .code);
-      place = s .0;
-      height = s .1;
+      place = stands _ (getD (b .states) k noState) (t .state);
       journal = journal-few _ (t .journal);
-      entry-cell = entries-within _ (t .journal);
-      named = v .named;
-      showing = v;
+      showing = showing _ _ (t .journal) (t .versions);
       reads = reads-few _ _ _ _ (t .reads);
       mark = mark-within _ _ (t .mark);
-      read-cell = λ i l. r i l .cell;
-      back-place = λ i l. r i l .place;
-      back-height = λ i l. r i l .height;
       back-listed = λ i l. r i l .listed;
       back-writes = λ i l. r i l .writes;
     }
 
 pub block-fit : (b : Block) → blockFits limits box (blockOf b) ≡ true → (k : ℕ) → k < b .count → Fit b k
 block-fit b e k l =
-    fit b k (tested b k (passes-at (jobWithinAt b) 0 (b .count) (and-both (leb (b .count) JOBS) _ (sym (block-is b) ∙ e) .1) k (omega arith) (omega arith)))
+    fit b k (tested b k (passes-at (jobWithinAt b) 0 (b .count) (both (leb (b .count) JOBS) _ (sym (block-is b) ∙ e) .1) k (omega arith) (omega arith)))

@@ -15,7 +15,7 @@ use Rattle.machine.specs.View.{tops, codeOf, noJob}
 use Rattle.machine.specs.declared.instruction.Instruction.{Instruction}
 use Rattle.machine.specs.declared.job.Job.{Job}
 use Rattle.machine.specs.declared.job.State.{State}
-use Rattle.turns.specs.View.{entryOf, entriesOf, journalOf, placeAt, versionsOf, markOf, noEntry, noJournal, noVersions, noRead, noReads}
+use Rattle.turns.specs.View.{entryOf, entriesOf, journalOf, length-journal, placeAt, versionsOf, markOf, noEntry, noJournal, noVersions, noRead, noReads}
 use Rattle.turns.specs.Block.{noState, noCheckpoint, runningOf, readOf, readsOf, jobOf, blockOf}
 use Rattle.turns.specs.Box.{limits, box}
 use Rattle.turns.specs.declared.block.Entry.{Entry}
@@ -161,10 +161,6 @@ journal-is jo =
 versions-are : (n : ℕ) (v : Versions) → E.all (λ i. ltb i n) (versionsOf v) ≡ versionsWithin n v
 unfolding versionsWithin versionsOf
 versions-are n v = all-tab (λ i. ltb i n) (v .size) (placeAt v)
-
-length-journal : (jo : Journal) → length (journalOf jo) ≡ jo .size
-unfolding entriesOf
-length-journal jo = length-tab (jo .size) (λ i. entryOf (getD (jo .entries) i noEntry))
 
 -- the tests of the journal stand together, and those of the reads
 grouped : (s l a v m n r : Bool) → s && l && a && v && m && n && r ≡ s && (l && a) && v && (m && n) && r

@@ -6,9 +6,9 @@ use mathlib.Core.Option.{Option, none, some}
 use mathlib.Core.List.{List, [], _∷_}
 use Prim.Native.Nat.{ℕ, suc, _≤_, _<_}
 use lib.Dec.{eqb, ltb}
-use lib.ListN.{getD, drop}
+use lib.ListN.{length, getD, drop}
 use borrow.Author.Tests.{lt-ltb, le-ltb}
-use Rattle.theory.specs.Lists.{tab}
+use Rattle.theory.specs.Lists.{tab, length-tab}
 use Rattle.theory.specs.Engine as E
 use Rattle.turns.specs.declared.block.Entry.{Entry}
 use Rattle.turns.specs.declared.block.Journal.{Journal}
@@ -34,6 +34,10 @@ entriesOf n j = tab n (λ k. entryOf (getD (j .entries) k noEntry))
 
 abbrev pub journalOf : Journal → List E.Entry
 journalOf j = entriesOf (j .size) j
+
+pub length-journal : (j : Journal) → length (journalOf j) ≡ j .size
+unfolding entriesOf
+length-journal j = length-tab (j .size) (λ k. entryOf (getD (j .entries) k noEntry))
 
 -- the entry that the k-th version names; one past the array's end names nothing
 unfoldable pub placeAt : Versions → ℕ → ℕ

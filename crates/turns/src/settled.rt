@@ -36,7 +36,7 @@ fn final_one(status: u8) -> u8
 }
 
 // How many of the first count jobs are final.
-pub(crate) fn count_finals(status: [u8; 16], count: u8) -> u8
+fn count_finals(status: [u8; 16], count: u8) -> u8
     requires { ⌜ count ≤ JOBS ⌝ }
     ensures { λ r. ⌜ r ≡ finalsBelow status count ⌝ }
 {

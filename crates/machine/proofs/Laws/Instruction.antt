@@ -1,12 +1,12 @@
 -- The tables and tests of an instruction: each branch of the code picks the row, or the test, that the definition picks.
 use mathlib.Core.Path.{_≡_, refl, sym}
-use mathlib.Core.Bool.{Bool, true, false, not, cond, _&&_, _||_}
-use mathlib.Core.List.{List, [], _∷_}
+use mathlib.Core.Bool.{Bool, true, false, _&&_, _||_}
+use mathlib.Core.List.{[], _∷_}
 use Prim.Native.Nat.{ℕ, _+_, _-_, _≤_, _<_}
 use native.Mathlib.Omega.{arith}
 use lib.Dec.{eqb, leb, ltb}
-use lib.ListN.{length, getD, List·getD-eq-default}
-use borrow.Author.Tests.{le-ltb, lt-ltb, le-leb, lt-leb, leb-true, leb-false, eq-eqb, ne-eqb}
+use lib.ListN.{getD, List·getD-eq-default}
+use borrow.Author.Tests.{le-ltb, lt-ltb, le-leb, lt-leb, leb-true, leb-false, ne-eqb}
 use Rattle.machine.specs.Instruction.{needs, changes, columns, inColumn, fits, leadsOn, jumps, need, after}
 use Rattle.machine.specs.declared.instruction.Instruction.{Instruction}
 

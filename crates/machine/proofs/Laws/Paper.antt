@@ -1,25 +1,25 @@
 -- The paper's verdict: a field's parts stand at fixed distances from its start, and the loop's invariant says that
 -- the jobs so far, joined to the answer for the fields from here on, are the answer to the whole paper.
 use mathlib.Core.Path.{_≡_, refl, ap, sym, _∙_}
-use mathlib.Core.Bool.{Bool, true, false, not, cond, _||_}
+use mathlib.Core.Bool.{cond, _||_}
 use mathlib.Core.List.{List, [], _∷_, _++_, map, map-append, append-nil, append-assoc}
 use Prim.Native.Nat.{ℕ, zero, suc, _+_, _-_, _*_, _/_, _%_, _^_, _≤_, _<_}
 use native.Mathlib.Omega.{arith}
 use native.Mathlib.Numerals.{add-one}
 use native.Mathlib.Nat.{add-zero, sub-zero}
-use lib.Dec.{eqb, leb, ltb}
-use lib.ListN.{length, getD, take, drop, set, length-drop, length-append, length-map, drop-of-length-le}
+use lib.Dec.{leb}
+use lib.ListN.{length, getD, take, drop, set, length-drop, length-map, drop-of-length-le}
 use lib.Seq.{getD-drop, drop-drop, take-suc-set, length-take-le}
 use borrow.Author.Tests.{le-ltb, lt-ltb, le-leb, eq-eqb, ne-eqb}
 use mir.Val.{Fits}
 use mir.Syntax.{w8, w64}
-use Rattle.theory.specs.Lists.{firsts, firsts-take, length-firsts}
+use Rattle.theory.specs.Lists.{firsts-take}
 use Rattle.machine.specs.Machine.{stopping}
-use Rattle.machine.specs.Verdict.{Finding, sound, fault, jobVerdict}
-use Rattle.machine.specs.Paper.{little, instruction, instructions, size, jobOf, later, frameOf, fieldOf, Answer, jobs, refused, with, onSound, unlessEnd, fields, paperAnswer, jobCount}
+use Rattle.machine.specs.Verdict.{sound, fault, jobVerdict}
+use Rattle.machine.specs.Paper.{little, instruction, instructions, size, jobOf, later, frameOf, fieldOf, Answer, jobs, refused, with, onSound, unlessEnd, fields, paperAnswer}
 use Rattle.machine.specs.Passing.{both-sound}
-use Rattle.machine.specs.Framed.{Framed, framed, length-instructions}
-use Rattle.machine.specs.View.{codeOf, number, findingOf, noJob, answerOf, Takes, Answers}
+use Rattle.machine.specs.Framed.{Framed, framed}
+use Rattle.machine.specs.View.{codeOf, number, findingOf, noJob, Takes, Answers}
 use Rattle.machine.specs.declared.counts.Place.{Place}
 use Rattle.machine.specs.declared.instruction.Instruction.{Instruction}
 use Rattle.machine.specs.declared.job.Job.{Job}
@@ -27,7 +27,6 @@ use Rattle.machine.specs.declared.verdict.Fault.{Fault}
 use Rattle.machine.specs.declared.verdict.Fault.the-variants.{Head, Tag, Jobs, Length}
 use Rattle.machine.specs.declared.verdict.Check.{Check}
 use Rattle.machine.specs.declared.verdict.Check.the-variants.{Passes, Refused}
-use Rattle.machine.specs.declared.paper.Verdict.{Verdict}
 use Rattle.machine.specs.declared.paper.Verdict.the-variants.{Accepted, Refused as RefusedPaper}
 use Rattle.machine.specs.declared.paper.Checked.{Checked}
 use Rattle.machine.specs.declared.paper.Taken.{Taken}

@@ -3,27 +3,26 @@ use mathlib.Core.Path.{_≡_, refl, ap, sym, _∙_}
 use mathlib.Core.Logic.{_⊎_, inl, inr}
 use mathlib.Core.Bool.{Bool, true, false, not, cond, _&&_, _||_}
 use mathlib.Core.List.{List, [], _∷_, _++_}
-use Prim.Native.Nat.{ℕ, zero, suc, _+_, _-_, _≤_, _<_}
+use Prim.Native.Nat.{ℕ, _+_, _-_, _≤_, _<_}
 use native.Mathlib.Omega.{arith}
 use native.Mathlib.Decide.{ℕ-discrete}
 use native.Mathlib.Numerals.{add-one}
 use lib.Dec.{eqb, leb, ltb}
-use lib.ListN.{length, getD, drop, set, List·getD-eq-default}
-use borrow.Author.Tests.{le-ltb, lt-ltb, le-leb, lt-leb, eq-eqb, ne-eqb, not-true, not-false}
+use lib.ListN.{length, getD, drop, set}
+use borrow.Author.Tests.{le-ltb, lt-ltb, le-leb, lt-leb, ne-eqb, not-true, not-false}
 use mir.Val.{Fits}
 use mir.Syntax.{w8}
-use Rattle.theory.specs.Promise.{Act, nothing, read, write, stop, abandon, stuck}
+use Rattle.theory.specs.Promise.{nothing, read, write, stop, abandon}
 use Rattle.machine.specs.Instruction.{needs, changes, columns, known, fits, leadsOn, need, after}
-use Rattle.machine.specs.Machine.{State, cellOf, top, next, sum, difference, less, equal, puts, stays, stackAfter, placeAfter, moved, placed, suffices, ready, asked, act, stepped, given}
+use Rattle.machine.specs.Machine.{State, cellOf, top, sum, difference, less, equal, stays, stackAfter, placeAfter, moved, placed, suffices, ready, asked, act, stepped, given}
 use Rattle.machine.specs.Able.{Able, able}
 use Rattle.machine.specs.View.{stackOf, stateOf, actOf, Steps}
-use Rattle.machine.specs.declared.counts.Cell.{Cell}
 use Rattle.machine.specs.declared.counts.Place.{Place}
 use Rattle.machine.specs.declared.instruction.Instruction.{Instruction}
 use Rattle.machine.specs.declared.job.Stack.{Stack}
 use Rattle.machine.specs.declared.job.State.{State as CodeState}
 use Rattle.machine.specs.declared.step.Act.{Act as CodeAct}
-use Rattle.machine.specs.declared.step.Act.the-variants.{Nothing, Read, Write, Stop, Abandon, Stuck}
+use Rattle.machine.specs.declared.step.Act.the-variants.{Stuck}
 use Rattle.machine.proofs.Laws.Stack.{length-tops}
 
 -- ---- what an able instruction finds, by its code

@@ -7,16 +7,16 @@ use Prim.Native.Nat.{ℕ, zero, suc, _+_, _-_, _≤_, _<_}
 use native.Mathlib.Omega.{arith}
 use native.Mathlib.Numerals.{add-one}
 use native.Mathlib.Nat.{sub-zero}
-use lib.Dec.{eqb, leb, ltb}
+use lib.Dec.{eqb, leb}
 use lib.ListN.{getD, set, length, replicate}
 use borrow.Author.Tests.{le-ltb, lt-ltb, le-leb, lt-leb, eq-eqb, ne-eqb, not-true, not-false}
 use mir.Val.{Fits}
 use mir.Syntax.{w8}
 use Rattle.theory.specs.Lists.{length-firsts, getD-firsts}
-use Rattle.machine.specs.Instruction.{READ, WRITE, known, fits, leadsOn, jumps, need, after}
+use Rattle.machine.specs.Instruction.{known, fits, leadsOn, jumps, need, after}
 use Rattle.machine.specs.Machine.{stopping}
 use Rattle.machine.specs.Able.{jump-place}
-use Rattle.machine.specs.Verdict.{Finding, sound, fault, andThen, scan, at, count, formOf, formAt, endOf, meet, bring, lead, brought, ledOf, meetingOf, foundOf, heightOf, entriesOf, entriesAt, sizeOf, flowOf, verdictOf, jobVerdict}
+use Rattle.machine.specs.Verdict.{Finding, sound, scan, at, count, formOf, formAt, endOf, meet, bring, lead, brought, ledOf, meetingOf, foundOf, heightOf, entriesOf, entriesAt, sizeOf, flowOf, verdictOf, jobVerdict}
 use Rattle.machine.specs.Passing.{scan-sound, form-sound, end-sound, entries-sound}
 use Rattle.machine.specs.Fitting.{Fitting}
 use Rattle.machine.specs.View.{codeOf, findingOf}

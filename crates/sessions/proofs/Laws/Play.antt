@@ -1,23 +1,19 @@
 -- A whole session: the parts of its bytes are the code's parts, an opened block fits after any turns, and f is the number of final words;
 -- so the lines that are put are the session's text.
-use mathlib.Core.Path.{_≡_, refl, ap, sym, _∙_}
-use mathlib.Core.Bool.{Bool, true, false, not, cond, _&&_}
-use mathlib.Core.List.{List, [], _∷_, _++_, map}
+use mathlib.Core.Path.{_≡_, refl, ap, _∙_}
+use mathlib.Core.Bool.{true, false, not}
+use mathlib.Core.List.{List, [], _∷_}
 use Prim.Native.Nat.{ℕ, suc, _+_, _-_, _^_, _≤_, _<_}
 use native.Mathlib.Omega.{arith}
-use native.Mathlib.Nat.{add-zero}
-use lib.Dec.{eqb, leb, ltb}
-use lib.ListN.{length, take, drop, replicate, length-drop, length-map}
+use lib.ListN.{length, take, drop, length-drop, length-map}
 use lib.Seq.{take-all}
 use mir.Val.{Fits}
 use mir.Syntax.{w64}
-use borrow.Author.Tests.{lt-ltb, le-ltb, eq-eqb, leb-true, eqb-true, not-true, not-false}
-use Rattle.theory.specs.ReadSizes.{both}
+use borrow.Author.Tests.{eq-eqb, not-true, not-false}
 use Rattle.theory.specs.Word as W
 use Rattle.theory.specs.Engine as E
 use Rattle.theory.specs.Finals.{finalWord, finals-turn}
 use Rattle.theory.specs.Sizes.{turns-fit}
-use Rattle.machine.specs.Limits.{CELLS}
 use Rattle.machine.specs.Machine.{Running}
 use Rattle.machine.specs.View.{number}
 use Rattle.machine.specs.declared.verdict.Fault.{Fault}
@@ -27,7 +23,7 @@ use Rattle.machine.specs.declared.counts.Place.{Place}
 use Rattle.turns.specs.Box.{box, limits, box-promise}
 use Rattle.turns.specs.Block.{blockOf}
 use Rattle.turns.specs.Many.{words, byteOf, bytes, ifLong, Takes}
-use Rattle.turns.specs.Open.{openAnswer, openBlock, openingOf, Opens}
+use Rattle.turns.specs.Open.{openingOf, Opens}
 use Rattle.turns.specs.Settled.{unlessUnsettled, settledTable, Settles}
 use Rattle.turns.specs.Demands.{open-fits, open-finals}
 use Rattle.turns.specs.declared.block.Block.{Block}

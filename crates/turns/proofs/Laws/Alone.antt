@@ -10,13 +10,15 @@ use lib.ListN.{length, getD, drop, length-append, length-drop}
 use borrow.Author.Tests.{eqb-true, leb-true, le-leb, not-true, not-false}
 use Rattle.theory.specs.Lists.{length-firsts, getD-firsts}
 use Rattle.theory.specs.Promise.{Act, nothing, read, write, stop, abandon, stuck}
+use Rattle.theory.specs.Every.{every-append}
 use Rattle.theory.specs.Engine as E
 use Rattle.theory.specs.Engine.{lastAt}
 use Rattle.theory.specs.Serial.{over, solo, alone}
 use Rattle.machine.specs.Limits.{ROOM, CELLS}
 use Rattle.machine.specs.Instruction.{STOP, ABANDON, READ, WRITE}
 use Rattle.machine.specs.Machine.{State as Plain, Running, stopping, current, starting, formed, sizes, inJob, cellOf, top, next as second, stays, stackAfter, moved, ready, asked, act, stepped, given}
-use Rattle.machine.specs.Able.{and-both, ready-all}
+use Rattle.theory.specs.ReadSizes.{both}
+use Rattle.machine.specs.Able.{ready-all}
 use Rattle.machine.specs.View.{stateOf, codeOf, actOf, Steps}
 use Rattle.machine.specs.declared.counts.Cell.{Cell}
 use Rattle.machine.specs.declared.instruction.Instruction.{Instruction}
@@ -25,9 +27,8 @@ use Rattle.machine.specs.declared.job.State.{State}
 use Rattle.machine.specs.declared.step.Stepped.{Stepped}
 use Rattle.machine.specs.declared.step.Act.{Act as CodeAct}
 use Rattle.machine.specs.declared.step.Act.the-variants.{Nothing, Read, Write, Stop, Abandon, Stuck}
-use Rattle.promise.specs.Papers.{All, none as all-none, one}
 use Rattle.turns.specs.Box.{box, boxChecked, box-promise}
-use Rattle.turns.specs.View.{noEntry, entryOf, entriesOf, journalOf, placeOf}
+use Rattle.turns.specs.View.{entryOf, entriesOf, journalOf, length-journal, placeOf}
 use Rattle.turns.specs.Block.{runningOf}
 use Rattle.turns.specs.SerialRun.{cellsOf}
 use Rattle.turns.specs.Alone.{StepsIn, Leaves, Runs, Goes, GoesOn, Begins, toGo, Passes}
@@ -36,7 +37,6 @@ use Rattle.turns.specs.declared.block.Journal.{Journal}
 use Rattle.turns.specs.declared.journal.Found.{Found}
 use Rattle.turns.specs.declared.journal.Found.the-variants.{At, Nowhere}
 use Rattle.turns.specs.declared.serial.Alone.{Alone}
-use Rattle.turns.proofs.Laws.Journal.{length-journal}
 use Rattle.turns.proofs.Laws.Own.{own-low}
 use Rattle.turns.proofs.Laws.Solo.{solo-stop, solo-abandon, rest-nothing, rest-read, rest-write}
 
@@ -98,17 +98,13 @@ module _ (job : Job) (T : ℕ → ℕ) (a : Alone) (e : a .ended ≡ false) (g :
   unfolding sizes
   size-in =
       let n = length (codeOf job) in
-      let x = and-both (leb n 64 && formed (codeOf job) n n && ltb (a .state .place .0) n) (leb (length (stateOf (a .state) .stack)) 16) (boxChecked .ok-fits (runningOf (codeOf job) (a .state)) (g .runs e .ok)) in
-      let y = and-both (leb n 64 && formed (codeOf job) n n) (ltb (a .state .place .0) n) (x .0) in
-      let z = leb-true n 64 (and-both (leb n 64) (formed (codeOf job) n n) (y .0) .0) in
+      let x = both (leb n 64 && formed (codeOf job) n n && ltb (a .state .place .0) n) (leb (length (stateOf (a .state) .stack)) 16) (boxChecked .ok-fits (runningOf (codeOf job) (a .state)) (g .runs e .ok)) in
+      let y = both (leb n 64 && formed (codeOf job) n n) (ltb (a .state .place .0) n) (x .0) in
+      let z = leb-true n 64 (both (leb n 64) (formed (codeOf job) n n) (y .0) .0) in
       omega (arith, z, length-firsts (job .size) stopping (job .code))
 
 pub not-both : {A : Type 0} → false ≡ true → A
 not-both q = absurd (let z : _≡_ {A = ℕ} 0 1 = cc in omega arith)
-
-all-more : {A : Type 0} {P : A → Type 0} {l : List A} {x : A} → All P l → P x → All P (l ++ (x ∷ []))
-all-more all-none p = one p all-none
-all-more (one q qs) p = one q (all-more qs p)
 
 module _ (is : List Instruction) (T : ℕ → ℕ) (a : Alone) (r : Stepped) (ended : a .ended ≡ false) (g : Goes is T a) (er : StepsIn is (a .state) r) where
   abbrev here : Running
@@ -175,7 +171,7 @@ module _ (is : List Instruction) (T : ℕ → ℕ) (a : Alone) (r : Stepped) (en
       → GoesOn is T a (record { ended = false; state = r .state; journal = j })
   alone-write c v j e ej =
       on (r .state) j (record {
-        writes = record { few = omega (arith, size, known .room, k .2); cells = rw ej (all-more (known .writes .cells) (box-promise .cell-write here t (c .0) v (asks (Write c v) e))) };
+        writes = record { few = omega (arith, size, known .room, k .2); cells = rw ej (every-append (λ x. x .cell < CELLS) (journalOf (a .journal)) _ (known .writes .cells) (box-promise .cell-write here t (c .0) v (asks (Write c v) e), tt)) };
         ok = k .0;
         room = omega (arith, size, known .room, k .2);
         rest = rest-write box T CELLS box-promise (journalOf (a .journal)) here _ (known .rest) (journalOf j) t (c .0) v (asks (Write c v) e) ej;
@@ -200,7 +196,7 @@ module _ (is : List Instruction) (T : ℕ → ℕ) (a : Alone) (r : Stepped) (en
   pub alone-abandon : (b : Alone) → r .act ≡ Abandon → b .ended ≡ true → journalOf (b .journal) ≡ [] → GoesOn is T a b
   alone-abandon b e eb ej =
       off b eb (record {
-        writes = record { few = omega (arith, ap length ej, length-journal (b .journal)); cells = rw ej all-none };
+        writes = record { few = omega (arith, ap length ej, length-journal (b .journal)); cells = rw ej tt };
         does = rw ej (sym (solo-abandon box T _ (journalOf (a .journal)) here (asks Abandon e)) ∙ known .rest);
       })
 
@@ -215,7 +211,7 @@ module _ (job : Job) (T : ℕ → ℕ) where
   unfolding alone
   alone-start a p b = record {
     runs = λ q. record {
-      writes = record { few = omega (arith, empty); cells = rw (b .empty) all-none };
+      writes = record { few = omega (arith, empty); cells = rw (b .empty) tt };
       ok = rw same (p .passed .ok);
       room = rw same (omega (arith, empty, p .passed .few-writes));
       rest = ap (λ (x : Running). solo box (suc (box .left x)) T (journalOf (a .journal)) x) same ∙ rw (b .empty) refl;

@@ -66,8 +66,4 @@ pub entry-is : (j : Journal) (k : ℕ) → k < j .size → entryOf (getD (j .ent
 unfolding entriesOf
 entry-is j k l = sym (getD-tab (j .size) (λ i. entryOf (getD (j .entries) i noEntry)) k E.noEntry l)
 
-pub length-journal : (j : Journal) → length (journalOf j) ≡ j .size
-unfolding entriesOf
-length-journal j = length-tab (j .size) (λ i. entryOf (getD (j .entries) i noEntry))
-
 pub ruleset entry-laws = (entry-added, entry-is)

@@ -1,14 +1,13 @@
 -- A list of turns: what is left of the list, from the block so far, is the whole answer; and the bytes so far are the first of the whole.
 use mathlib.Core.Path.{_≡_, refl, ap, sym, _∙_}
-use mathlib.Core.List.{List, [], _∷_, _++_, map, append-nil, append-assoc}
-use Prim.Native.Nat.{ℕ, zero, suc, _+_, _≤_, _<_}
+use mathlib.Core.List.{List, [], _∷_, _++_, append-nil, append-assoc}
+use Prim.Native.Nat.{ℕ, _+_, _≤_, _<_}
 use native.Mathlib.Omega.{arith}
 use native.Mathlib.Numerals.{add-one}
 use lib.ListN.{length, getD, take, drop, set, drop-of-length-le}
 use lib.Seq.{take-suc-set, take-all, drop-cons}
 use borrow.Author.Tests.{ne-eqb, eq-eqb}
 use Rattle.theory.specs.Engine as E
-use Rattle.machine.specs.Machine.{Running}
 use Rattle.turns.specs.Box.{box, limits}
 use Rattle.turns.specs.Block.{blockOf}
 use Rattle.turns.specs.Turn.{wordOf, Turns}

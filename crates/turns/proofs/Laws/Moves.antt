@@ -20,7 +20,7 @@ use Rattle.machine.specs.Machine.{Running}
 use Rattle.machine.specs.declared.counts.Ticket.{Ticket}
 use Rattle.machine.specs.declared.instruction.Instruction.{Instruction}
 use Rattle.machine.specs.declared.job.State.{State}
-use Rattle.turns.specs.View.{entryOf, entriesOf, journalOf, placeAt, place-low, versionsOf, markOf, markByte, noJournal, noVersions, noRead, noReads, Showing}
+use Rattle.turns.specs.View.{entryOf, entriesOf, journalOf, length-journal, placeAt, place-low, versionsOf, markOf, markByte, noJournal, noVersions, noRead, noReads, Showing}
 use Rattle.turns.specs.Block.{codeAt, noState, noCheckpoint, runningOf, checkpointOf, readOf, readsOf, jobOf}
 use Rattle.turns.specs.Marks.{shownIn, struckBy, firstFrom, strikesAt, markBy, markReads, sweep, ListsFit}
 use Rattle.turns.specs.Becomes.{Becomes, quiet}
@@ -33,7 +33,6 @@ use Rattle.turns.specs.declared.block.Read.{Read}
 use Rattle.turns.specs.declared.block.Reads.{Reads}
 use Rattle.turns.specs.declared.block.Block.{Block}
 use Rattle.turns.specs.declared.marks.Shows.{Shows}
-use Rattle.turns.proofs.Laws.Journal.{length-journal}
 use Rattle.turns.proofs.Laws.Versions.{length-versions}
 
 module _ (b : Block) (i : ℕ) (inside : i < b .count) (few : b .count ≤ 16) where

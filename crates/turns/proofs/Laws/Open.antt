@@ -5,13 +5,13 @@ use mathlib.Core.Option.{none}
 use mathlib.Core.List.{List, [], map}
 use Prim.Native.Nat.{ℕ, _≤_, _<_}
 use native.Mathlib.Omega.{arith}
-use lib.ListN.{length, getD, replicate, getD-replicate, length-map}
+use lib.ListN.{length, getD, replicate, getD-replicate}
 use lib.Seq.{ext-getD}
 use borrow.Author.Tests.{ne-eqb}
 use Rattle.theory.specs.Lists.{firsts, length-firsts, getD-firsts, tab, length-tab, getD-tab, tab-same, map-tab}
 use Rattle.theory.specs.Engine as E
 use Rattle.machine.specs.Machine.{Running, start, starting}
-use Rattle.machine.specs.Paper.{jobs, refused, refusal, paperAnswer}
+use Rattle.machine.specs.Paper.{refused, refusal, paperAnswer}
 use Rattle.machine.specs.View.{stateOf, codeOf, noJob, number, answerOf, Answers}
 use Rattle.machine.specs.declared.counts.Place.{Place}
 use Rattle.machine.specs.declared.instruction.Instruction.{Instruction}
@@ -22,7 +22,6 @@ use Rattle.machine.specs.declared.paper.Field.{Field}
 use Rattle.machine.specs.declared.paper.Verdict.{Verdict}
 use Rattle.machine.specs.declared.paper.Verdict.the-variants.{Accepted as AcceptedPaper, Refused as RefusedPaper}
 use Rattle.machine.specs.declared.verdict.Fault.{Fault}
-use Rattle.promise.specs.Papers.{accepted-jobs}
 use Rattle.turns.specs.View.{journalOf, versionsOf, markOf, noJournal, noVersions, noReads}
 use Rattle.turns.specs.Block.{noState, readsOf, jobOf, blockOf}
 use Rattle.turns.specs.Open.{nothingOpen, openedBy, openBlock, openAnswer, openingOf, Opens, freshBlock, NoReads}
@@ -33,6 +32,7 @@ use Rattle.turns.specs.declared.block.Checkpoint.{Checkpoint}
 use Rattle.turns.specs.declared.block.Block.{Block}
 use Rattle.turns.specs.declared.open.Opening.{Opening}
 use Rattle.turns.specs.declared.open.Opening.the-variants.{Accepted, WrongTable, Refused}
+use Rattle.turns.proofs.Laws.Accepted.{accepted, few-jobs}
 
 -- ---- the fresh jobs
 module _ (table : List ℕ) (n : ℕ) (js : List Job) (s : State) (j : Journal) (v : Versions) (r : Reads) (cs : List Checkpoint) where
@@ -95,22 +95,10 @@ module _ (start paper : List ℕ) where
         record { answer = rw (es, ← a) (q ∙ rw e refl); block = rw (es, ← a) eb }
 
     module _ (e : r .verdict ≡ AcceptedPaper) where
-      abbrev js : List (List Instruction)
-      js = map codeOf (firsts (r .count) noJob (r .jobs))
-
-      accepted : jobs js ≡ paperAnswer paper
-      accepted = ap (λ (v : Verdict). answerOf v (r .count) (r .jobs)) (sym e) ∙ er .answer
-
-      long : length js ≡ r .count
-      long = length-map (firsts (r .count) noJob (r .jobs)) codeOf ∙ length-firsts (r .count) noJob (r .jobs)
-
-      pub open-count : r .count ≤ 16
-      open-count = omega (arith, long, accepted-jobs paper js (sym accepted) .0)
-
       pub open-accepted : (b : Block) (table : List ℕ) → table ≡ start → blockOf b ≡ freshBlock table (r .count) (r .jobs) → Opens start paper (record { answer = Accepted; block = b })
       unfolding openingOf openAnswer openBlock openedBy freshBlock
-      open-accepted b table et eb = record { answer = rw (es, ← accepted) refl; block = rw (es, ← accepted) (eb ∙ rw (et, fresh-jobs (r .count) (r .jobs)) refl) }
+      open-accepted b table et eb = record { answer = rw (es, ← accepted paper r er e) refl; block = rw (es, ← accepted paper r er e) (eb ∙ rw (et, fresh-jobs (r .count) (r .jobs)) refl) }
 
 pub ruleset answer-laws = (opening-accepted, opening-refused)
 
-pub ruleset open-laws = (open-wrong, open-refused, open-count, open-accepted)
+pub ruleset open-laws = (open-wrong, open-refused, few-jobs, open-accepted)

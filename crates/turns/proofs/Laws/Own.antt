@@ -13,7 +13,7 @@ use lib.ListN.{length, getD}
 use borrow.Author.Tests.{eq-eqb, ne-eqb, le-leb, lt-leb}
 use Rattle.theory.specs.Engine as E
 use Rattle.theory.specs.Engine.{lastAt, lastValue, orElse, next}
-use Rattle.turns.specs.View.{entryOf, journalOf, placeOf, valueOf, noRead}
+use Rattle.turns.specs.View.{entryOf, journalOf, length-journal, placeOf, valueOf, noRead}
 use Rattle.turns.specs.Turn.{listedFrom, finalBelow}
 use Rattle.turns.specs.declared.block.Entry.{Entry}
 use Rattle.turns.specs.declared.block.Journal.{Journal}
@@ -22,7 +22,6 @@ use Rattle.turns.specs.declared.journal.Found.{Found}
 use Rattle.turns.specs.declared.journal.Found.the-variants.{At, Nowhere}
 use Rattle.turns.specs.declared.versions.Shown.{Shown}
 use Rattle.turns.specs.declared.versions.Shown.the-variants.{Value, Nothing}
-use Rattle.turns.proofs.Laws.Journal.{length-journal}
 
 -- ---- the listed read of a cell
 module _ (r : Reads) (c k : ℕ) (R : Option ℕ) (inv : listedFrom r c k (r .size - k) ≡ R) where

@@ -2,22 +2,23 @@
 use mathlib.Core.Path.{_≡_, refl, ap, sym, _∙_}
 use mathlib.Core.Bool.{Bool, true, false, cond}
 use mathlib.Core.Option.{Option, none, some, Option·getD}
-use mathlib.Core.List.{List, [], _∷_, _++_, map}
+use mathlib.Core.List.{List, [], _∷_, _++_}
 use Prim.Native.Nat.{ℕ, zero, suc, _+_, _≤_, _<_}
 use native.Mathlib.Omega.{arith}
 use native.Mathlib.Numerals.{add-one}
 use native.Mathlib.Decide.{ℕ-discrete}
 use lib.Dec.{eqb}
-use lib.ListN.{length, getD, take, set, length-map, List·getD-map}
+use lib.ListN.{length, getD, take, set, List·getD-map}
 use lib.Seq.{getD-set-same, getD-set-other, take-suc, take-suc-set, take-all, ext-getD}
 use borrow.Author.Tests.{eq-eqb, ne-eqb}
-use Rattle.theory.specs.Lists.{tab, length-tab, getD-tab, firsts, length-firsts, getD-firsts}
+use Rattle.theory.specs.Lists.{tab, length-tab, getD-tab, firsts, getD-firsts}
 use Rattle.theory.specs.Promise.{Machine}
+use Rattle.theory.specs.Every.{every-at}
 use Rattle.theory.specs.Engine as E
 use Rattle.theory.specs.Engine.{lastAt, lastValue, orElse, next}
 use Rattle.theory.specs.Serial.{over, alone, serial}
 use Rattle.machine.specs.Machine.{Running, starting}
-use Rattle.machine.specs.Paper.{jobs, refused, refusal, paperAnswer}
+use Rattle.machine.specs.Paper.{refused, refusal, paperAnswer}
 use Rattle.machine.specs.View.{codeOf, number, noJob, answerOf, Answers}
 use Rattle.machine.specs.declared.counts.Place.{Place}
 use Rattle.machine.specs.declared.instruction.Instruction.{Instruction}
@@ -27,16 +28,17 @@ use Rattle.machine.specs.declared.paper.Field.{Field}
 use Rattle.machine.specs.declared.paper.Checked.{Checked}
 use Rattle.machine.specs.declared.paper.Verdict.{Verdict}
 use Rattle.machine.specs.declared.paper.Verdict.the-variants.{Accepted, Refused as RefusedPaper}
-use Rattle.promise.specs.Papers.{all-at, accepted-jobs}
+use Rattle.promise.specs.Papers.{accepted-jobs}
 use Rattle.turns.specs.Box.{box}
-use Rattle.turns.specs.View.{noEntry, entryOf, entriesOf, journalOf}
+use Rattle.turns.specs.View.{entryOf, entriesOf, journalOf, length-journal}
 use Rattle.turns.specs.SerialRun.{cellsOf, ranOn, outputAfter, unlessWrong, serialAnswer, serialTable, numbersOf, Serves}
 use Rattle.turns.specs.Alone.{Writes, Leaves, Passes, AllPass, Applies, RunsJob, RunsAll}
 use Rattle.turns.specs.declared.block.Entry.{Entry}
 use Rattle.turns.specs.declared.block.Journal.{Journal}
 use Rattle.turns.specs.declared.serial.Served.{Served}
 use Rattle.turns.specs.declared.serial.Served.the-variants.{Ran, WrongTable, Refused}
-use Rattle.turns.proofs.Laws.Journal.{length-journal, entry-is}
+use Rattle.turns.proofs.Laws.Journal.{entry-is}
+use Rattle.turns.proofs.Laws.Accepted.{jobsOf, jobs-long, accepted, few-jobs}
 
 -- ---- writes in order
 -- the last value of a journal, from its front
@@ -80,7 +82,7 @@ module _ (j : Journal) (w : Writes j) (table : List ℕ) (size : length table �
   module _ (e : Entry) (l : k < j .size) (ee : entryOf e ≡ getD (journalOf j) k E.noEntry) where
     pub apply-cell : e .cell .0 < length table
     apply-cell =
-        let z = rw (← ee) at (all-at (w .cells) E.noEntry k (rw (length-journal j) l)) in
+        let z = rw (← ee) at (every-at (λ x. x .cell < 256) (journalOf j) k E.noEntry (rw (length-journal j) l) (w .cells)) in
         omega arith
 
     pub apply-on : (before : List ℕ) → cellsOf table ≡ over (entriesOf k j) (cellsOf before) → cellsOf (set table (e .cell .0) (e .value)) ≡ over (entriesOf (k + 1) j) (cellsOf before)
@@ -179,32 +181,20 @@ module _ (start output paper : List ℕ) where
           record { answer = rw (es, eo, ← a) (q ∙ rw e refl); table = rw (es, eo, ← a) refl }
 
       module _ (e : r .verdict ≡ Accepted) where
-        abbrev js : List (List Instruction)
-        js = map codeOf (firsts (r .count) noJob (r .jobs))
-
-        accepted : jobs js ≡ paperAnswer paper
-        accepted = ap (λ (v : Verdict). answerOf v (r .count) (r .jobs)) (sym e) ∙ er .answer
-
-        long : length js ≡ r .count
-        long = length-map (firsts (r .count) noJob (r .jobs)) codeOf ∙ length-firsts (r .count) noJob (r .jobs)
-
-        job-is : (k : ℕ) → k < r .count → getD js k [] ≡ codeOf (getD (r .jobs) k noJob)
+        job-is : (k : ℕ) → k < r .count → getD (jobsOf r) k [] ≡ codeOf (getD (r .jobs) k noJob)
         job-is k l = List·getD-map codeOf (firsts (r .count) noJob (r .jobs)) k noJob ∙ ap codeOf (getD-firsts (r .count) noJob (r .jobs) k l)
 
-        pub serve-count : r .count ≤ 16
-        serve-count = omega (arith, long, accepted-jobs paper js (sym accepted) .0)
-
         pub serve-pass : AllPass (r .jobs) (r .count)
-        serve-pass = record { pass = λ k l. record { passed = rw (job-is k l) at (accepted-jobs paper js (sym accepted) .1 k (rw long l)) } }
+        serve-pass = record { pass = λ k l. record { passed = rw (job-is k l) at (accepted-jobs paper (jobsOf r) (sym (accepted paper r er e)) .1 k (rw (jobs-long r) l)) } }
 
         pub serve-ran : (copied after : List ℕ) → copied ≡ start → RunsAll (r .jobs) (r .count) copied after → Serves start output paper Ran after
         unfolding numbersOf serialAnswer serialTable unlessWrong outputAfter ranOn
         serve-ran copied after ec ra = record {
-          answer = rw (es, eo, ← accepted) refl;
-          table = rw (es, eo, ← accepted) (by-cells after 256 (serial box (cellsOf start) (λ k. starting (getD js k [])) (length js)) (ra .size) (ra .cells ∙ same));
+          answer = rw (es, eo, ← accepted paper r er e) refl;
+          table = rw (es, eo, ← accepted paper r er e) (by-cells after 256 (ranOn start (jobsOf r)) (ra .size) (ra .cells ∙ same));
         }
           where
-            same : serial box (cellsOf copied) (λ k. starting (codeOf (getD (r .jobs) k noJob))) (r .count) ≡ serial box (cellsOf start) (λ k. starting (getD js k [])) (length js)
-            same = rw (ec, long) (serial-same box (cellsOf start) (λ k. starting (codeOf (getD (r .jobs) k noJob))) (λ k. starting (getD js k [])) (r .count) (λ k l. ap starting (sym (job-is k l))))
+            same : serial box (cellsOf copied) (λ k. starting (codeOf (getD (r .jobs) k noJob))) (r .count) ≡ ranOn start (jobsOf r)
+            same = rw (ec, jobs-long r) (serial-same box (cellsOf start) (λ k. starting (codeOf (getD (r .jobs) k noJob))) (λ k. starting (getD (jobsOf r) k [])) (r .count) (λ k l. ap starting (sym (job-is k l))))
 
-pub ruleset serve-laws = (wrong-start, wrong-output, serve-refused, serve-count, serve-pass, serve-ran)
+pub ruleset serve-laws = (wrong-start, wrong-output, serve-refused, few-jobs, serve-pass, serve-ran)

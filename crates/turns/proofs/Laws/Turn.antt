@@ -24,7 +24,7 @@ use Rattle.machine.specs.declared.step.Act.{Act as CodeAct}
 use Rattle.machine.specs.declared.step.Act.the-variants.{Nothing as NoAct, Read as ReadAct, Write as WriteAct, Stop as StopAct, Abandon as AbandonAct, Stuck as StuckAct}
 use Rattle.machine.specs.declared.step.Stepped.{Stepped}
 use Rattle.turns.specs.Box.{box, box-promise, limits}
-use Rattle.turns.specs.View.{entryOf, journalOf, versionsOf, valueOf, versionOf, versionAt, foundIn, markOf, noJournal, noRead, noReads, Showing, ShowingBelow}
+use Rattle.turns.specs.View.{entryOf, journalOf, length-journal, versionsOf, valueOf, versionOf, versionAt, foundIn, markOf, noJournal, noRead, noReads, Showing, ShowingBelow}
 use Rattle.turns.specs.Block.{codeAt, noState, noCheckpoint, runningOf, checkpointOf, readOf, readsOf, statusOf, jobOf, blockOf}
 use Rattle.turns.specs.Alone.{StepsIn}
 use Rattle.turns.specs.Becomes.{Becomes, becomes-changed}
@@ -42,7 +42,6 @@ use Rattle.turns.specs.declared.versions.Shown.the-variants.{Value, Noth
 use Rattle.turns.specs.declared.versions.Version.{Version}
 use Rattle.turns.specs.declared.turn.Word.the-variants.{Idle, Back, Step, End, Final, Wait, BadTicket, Stuck}
 use Rattle.turns.specs.declared.turn.Turned.{Turned}
-use Rattle.turns.proofs.Laws.Journal.{length-journal}
 use Rattle.turns.proofs.Laws.Versions.{length-versions}
 use Rattle.turns.proofs.Laws.Moves.{version-at}
 use Rattle.turns.proofs.Laws.Alone.{not-both, given-is}
@@ -202,13 +201,13 @@ module _ (b : Block) (i c : ℕ) where
   unfolding reading outside valueOf
   read-else x r ex q d = rw (own-none (lastValue (jobOf b i .journal) c) (listedValue (jobOf b i .reads) c) (E.find (cells b) (jobs b) c i) (sym (ap valueOf q) ∙ ex ∙ sym own-is)) d
 
-pub read-journal : (b : Block) (t : ℕ) → Sized b → 0 < t → t ≤ b .count → getD (b .journals) (t - 1) noJournal .size ≤ 8
-read-journal b t z p l = z .showing .showing (t - 1) (omega arith) .entries
+pub few-entries : (b : Block) (t : ℕ) → Sized b → 0 < t → t ≤ b .count → getD (b .journals) (t - 1) noJournal .size ≤ 8
+few-entries b t z p l = z .showing .showing (t - 1) (omega arith) .entries
 
-pub read-listed : (b : Block) (t : ℕ) → Sized b → 0 < t → t ≤ b .count → getD (b .reads) (t - 1) noReads .size ≤ 8
-read-listed b t z p l = z .lists .few (t - 1) (omega arith)
+pub few-reads : (b : Block) (t : ℕ) → Sized b → 0 < t → t ≤ b .count → getD (b .reads) (t - 1) noReads .size ≤ 8
+few-reads b t z p l = z .lists .few (t - 1) (omega arith)
 
-pub ruleset reading-laws = (read-journal, read-listed)
+pub ruleset reading-laws = (few-entries, few-reads)
 
 -- ---- one instruction, or the end
 lasts-few : (k : ℕ) (j : List E.Entry) → length (E.lastsFrom k j) ≤ length j
@@ -227,7 +226,7 @@ stop-showing b t new w p l e = record { entries = few; places = low; named = λ 
     j = getD (b .journals) (t - 1) noJournal
 
     few : j .size ≤ 8
-    few = w .sized .showing .showing (t - 1) (omega arith) .entries
+    few = few-entries b t (w .sized) p l
 
     low : new .size ≤ 8
     low = omega (arith, few, ap length e, length-versions new, lasts-few 0 (journalOf j), length-journal j)
@@ -236,7 +235,7 @@ stop-showing b t new w p l e = record { entries = few; places = low; named = λ 
     named k h = every-at (λ x. x < j .size) (versionsOf new) k 0 (rw (length-versions new) h) (rw e (subst (λ (n : ℕ). Below n (published (journalOf j))) (length-journal j) (published-below (journalOf j))))
 
 pub abandon-showing : (b : Block) (t : ℕ) (new : Versions) → Whole b → 0 < t → t ≤ b .count → versionsOf new ≡ [] → Showing (getD (b .journals) (t - 1) noJournal) new
-abandon-showing b t new w p l e = record { entries = w .sized .showing .showing (t - 1) (omega arith) .entries; places = omega (arith, none); named = λ k h. absurd (omega (arith, none)) }
+abandon-showing b t new w p l e = record { entries = few-entries b t (w .sized) p l; places = omega (arith, none); named = λ k h. absurd (omega (arith, none)) }
   where
     none : new .size ≡ 0
     none = sym (length-versions new) ∙ ap length e
@@ -247,9 +246,6 @@ module _ (b : Block) (t : ℕ) (w : Whole b) (p : 0 < t) (l : t ≤ b .count) wh
 
   pub stand-short : getD (b .jobs) (t - 1) noJob .size ≤ 64
   stand-short = w .short (t - 1) (omega arith)
-
-  pub stand-few : getD (b .journals) (t - 1) noJournal .size ≤ 8
-  stand-few = w .sized .showing .showing (t - 1) (omega arith) .entries
 
 module _ (b : Block) (i : ℕ) (done : Stepped) (h : StepsIn (codeAt b i) (getD (b .states) i noState) done) where
   abbrev told : CodeAct → E.Moved Running
@@ -296,7 +292,7 @@ module _ (b : Block) (i : ℕ) (done : Stepped) (h : StepsIn (codeAt b i) (getD 
   pub step-stuck : done .act ≡ StuckAct → Did b i (stepping b i) (record { word = Stuck; block = b })
   step-stuck e = rw (asks StuckAct e) (stuck-did b i (jobOf b i))
 
-pub ruleset stepping-laws = (inside-of, stand-in, stand-short, stand-few, stop-showing, abandon-showing, step-nothing, step-read, step-reading, step-write, step-stop, step-abandon, step-stuck)
+pub ruleset stepping-laws = (inside-of, stand-in, stand-short, few-entries, stop-showing, abandon-showing, step-nothing, step-read, step-reading, step-write, step-stop, step-abandon, step-stuck)
 
 -- ---- the rules, in order
 is-final : (n : ℕ) → E.isFinal (statusOf n) ≡ leb 2 n

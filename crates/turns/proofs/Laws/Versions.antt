@@ -13,7 +13,7 @@ use borrow.Author.Tests.{eq-eqb, ne-eqb, lt-ltb, le-ltb}
 use Rattle.theory.specs.Lists.{length-tab, getD-tab, tab-same, drop-tab}
 use Rattle.theory.specs.Engine as E
 use Rattle.theory.specs.Engine.{shownAt, writes?, lastsFrom, published, withdrawn}
-use Rattle.turns.specs.View.{noEntry, entryOf, journalOf, placeAt, place-low, versionsOf, placeOf, noJournal, noVersions, Showing, ShowingBelow, lastOne, keptOne, valueOf, versionOf, versionAt, foundIn}
+use Rattle.turns.specs.View.{entryOf, journalOf, length-journal, placeAt, place-low, versionsOf, placeOf, noJournal, noVersions, Showing, ShowingBelow, lastOne, keptOne, valueOf, versionOf, versionAt, foundIn}
 use Rattle.turns.specs.declared.block.Entry.{Entry}
 use Rattle.turns.specs.declared.block.Journal.{Journal}
 use Rattle.turns.specs.declared.block.Versions.{Versions}
@@ -23,7 +23,6 @@ use Rattle.turns.specs.declared.journal.Found.the-variants.{At, Nowhere}
 use Rattle.turns.specs.declared.versions.Version.{Version}
 use Rattle.turns.specs.declared.versions.Shown.{Shown}
 use Rattle.turns.specs.declared.versions.Shown.the-variants.{Value, Nothing}
-use Rattle.turns.proofs.Laws.Journal.{length-journal}
 
 pub length-versions : (v : Versions) → length (versionsOf v) ≡ v .size
 unfolding versionsOf
