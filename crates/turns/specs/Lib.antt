@@ -7,9 +7,9 @@ pub mod Becomes
 pub mod Moves
 pub mod Turn
 pub mod Many
+pub mod Open
 pub mod SerialRun
 pub mod Alone
-pub mod Open
 pub mod Settled
 pub mod Demands
 pub mod Sizes

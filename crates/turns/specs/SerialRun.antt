@@ -10,11 +10,10 @@ use Rattle.theory.specs.Serial.{serial}
 use Rattle.machine.specs.Limits.{CELLS}
 use Rattle.machine.specs.Machine.{starting}
 use Rattle.machine.specs.Paper.{Answer, jobs, refused, refusal, paperAnswer}
-use Rattle.machine.specs.View.{number}
 use Rattle.machine.specs.declared.instruction.Instruction.{Instruction}
 use Rattle.turns.specs.Box.{box}
-use Rattle.turns.specs.declared.serial.Served.{Served}
-use Rattle.turns.specs.declared.serial.Served.the-variants.{Ran, WrongTable, Refused}
+use Rattle.turns.specs.Open.{openingOf}
+use Rattle.turns.specs.declared.open.Opening.{Opening}
 
 -- the cells of a table
 abbrev pub cellsOf : List ℕ → ℕ → ℕ
@@ -41,13 +40,7 @@ serialAnswer start output paper = unlessWrong start output (12, 0, 0) (refusal (
 unfoldable pub serialTable : List ℕ → List ℕ → List ℕ → List ℕ
 serialTable start output paper = unlessWrong start output output (outputAfter start output (paperAnswer paper))
 
--- document 01's number, field and place of each answer
-unfoldable pub numbersOf : Served → ℕ × ℕ × ℕ
-numbersOf Ran = (0, 0, 0)
-numbersOf WrongTable = (12, 0, 0)
-numbersOf (Refused f g p) = (number f, g .0, p .0)
-
 -- the whole of a serial run: the answer, and the output table after it
-pub record Serves (start output paper : List ℕ) (r : Served) (after : List ℕ) : Type 0 where
-  pub answer : numbersOf r ≡ serialAnswer start output paper
+pub record Serves (start output paper : List ℕ) (r : Opening) (after : List ℕ) : Type 0 where
+  pub answer : openingOf r ≡ serialAnswer start output paper
   pub table : after ≡ serialTable start output paper

@@ -107,7 +107,7 @@ fn nothing_open() -> Block
 }
 
 // The checker's refusal.
-fn refuse_opening(verdict: Verdict) -> Opening
+pub(crate) fn refuse_opening(verdict: Verdict) -> Opening
     ensures { λ r. ⌜ openingOf r ≡ refusal (answerOf verdict 0 []) ⌝ }
 {
     match verdict {

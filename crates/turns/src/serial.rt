@@ -5,17 +5,16 @@ use crate::journal::Found;
 use crate::journal::entry_at;
 use crate::journal::last_entry;
 use crate::journal::with_entry;
+use crate::open::Opening;
+use crate::open::refuse_opening;
 use machine::counts::Cell;
-use machine::counts::Place;
 use machine::job::Job;
 use machine::job::State;
-use machine::paper::Field;
 use machine::paper::Verdict;
 use machine::paper::check_paper;
 use machine::step::Act;
 use machine::step::Stepped;
 use machine::step::instruct;
-use machine::verdict::Fault;
 ghost use mathlib.Core.Path.{_≡_};
 ghost use mathlib.Core.Bool.{true, false};
 ghost use mathlib.Core.List.{[]};
@@ -23,18 +22,10 @@ ghost use Prim.Native.Nat.{_≤_, _<_};
 ghost use lib.ListN.{length};
 ghost use Rattle.theory.specs.Serial.{over};
 ghost use Rattle.machine.specs.Limits.{LONGEST, FEW, JOBS, CELLS};
-ghost use Rattle.machine.specs.Paper.{refusal};
-ghost use Rattle.machine.specs.View.{codeOf, answerOf};
+ghost use Rattle.machine.specs.View.{codeOf};
 ghost use Rattle.turns.specs.View.{journalOf};
-ghost use Rattle.turns.specs.SerialRun.{cellsOf, numbersOf, Serves};
+ghost use Rattle.turns.specs.SerialRun.{cellsOf, Serves};
 ghost use Rattle.turns.specs.Alone.{StepsIn, Writes, Leaves, Goes, GoesOn, Begins, Passes, AllPass, Applies, RunsJob, RunsAll};
-
-// The answer to a serial run.
-pub enum Served {
-    Ran,
-    WrongTable,
-    Refused(Fault, Field, Place),
-}
 
 // A job alone: its state, its journal, and whether it has ended. The journal of a job that has ended holds the writes that it applies.
 struct Alone {
@@ -198,33 +189,24 @@ fn copy_table(from: &[u64], to: &mut [u64])
     }
 }
 
-// The checker's refusal.
-fn refuse_run(verdict: Verdict) -> Served
-    ensures { λ r. ⌜ numbersOf r ≡ refusal (answerOf verdict 0 []) ⌝ }
-{
-    match verdict {
-        Verdict::Accepted => Served::Ran,
-        Verdict::Refused(f, g, p) => Served::Refused(f, g, p),
-    }
-}
-
-// Both tables are tested for 12, then the paper is checked; every refusal leaves the output untouched. Else all jobs run.
-pub fn run_serially(start: &[u64], output: &mut [u64], paper: &[u8]) -> Served
+// Both tables are tested for 12, then the paper is checked, as at an opening; every refusal leaves the output untouched.
+// Else all jobs run.
+pub fn run_serially(start: &[u64], output: &mut [u64], paper: &[u8]) -> Opening
     ensures { λ r. ⌜ Serves (now (start .entry)) (now (output .entry)) (now (paper .entry)) r (now (output .exit)) ⌝ }
 {
     if start.len() != (Cell::COUNT as usize) {
-        return Served::WrongTable;
+        return Opening::WrongTable;
     }
     if output.len() != (Cell::COUNT as usize) {
-        return Served::WrongTable;
+        return Opening::WrongTable;
     }
     let checked = check_paper(paper);
     let verdict = checked.verdict;
     let Verdict::Accepted = verdict else {
-        return refuse_run(verdict);
+        return refuse_opening(verdict);
     };
     let jobs = checked.jobs;
     copy_table(start, output);
     run_jobs(jobs, checked.count, output);
-    Served::Ran
+    Opening::Accepted
 }

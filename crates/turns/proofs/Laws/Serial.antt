@@ -31,12 +31,13 @@ use Rattle.machine.specs.declared.paper.Verdict.the-variants.{Accepted, Refused
 use Rattle.promise.specs.Papers.{accepted-jobs}
 use Rattle.turns.specs.Box.{box}
 use Rattle.turns.specs.View.{entryOf, entriesOf, journalOf, length-journal}
-use Rattle.turns.specs.SerialRun.{cellsOf, ranOn, outputAfter, unlessWrong, serialAnswer, serialTable, numbersOf, Serves}
+use Rattle.turns.specs.SerialRun.{cellsOf, ranOn, outputAfter, unlessWrong, serialAnswer, serialTable, Serves}
+use Rattle.turns.specs.Open.{openingOf}
 use Rattle.turns.specs.Alone.{Writes, Leaves, Passes, AllPass, Applies, RunsJob, RunsAll}
 use Rattle.turns.specs.declared.block.Entry.{Entry}
 use Rattle.turns.specs.declared.block.Journal.{Journal}
-use Rattle.turns.specs.declared.serial.Served.{Served}
-use Rattle.turns.specs.declared.serial.Served.the-variants.{Ran, WrongTable, Refused}
+use Rattle.turns.specs.declared.open.Opening.{Opening}
+use Rattle.turns.specs.declared.open.Opening.the-variants.{Accepted as Ran, WrongTable}
 use Rattle.turns.proofs.Laws.Journal.{entry-is}
 use Rattle.turns.proofs.Laws.Accepted.{jobsOf, jobs-long, accepted, few-jobs}
 
@@ -141,17 +142,7 @@ module _ (from : List ℕ) (size : length from ≡ 256) (to : List ℕ) (size′
 
 pub ruleset copy-laws = (copy-start, copy-on, copy-end)
 
--- ---- the answer
-pub refuse-accepted : (v : Verdict) → v ≡ Accepted → numbersOf Ran ≡ refusal (answerOf v 0 [])
-unfolding numbersOf
-refuse-accepted v e = rw e refl
-
-pub refuse-refused : (v : Verdict) (f : Fault) (g : Field) (p : Place) → v ≡ RefusedPaper f g p → numbersOf (Refused f g p) ≡ refusal (answerOf v 0 [])
-unfolding numbersOf
-refuse-refused v f g p e = rw e refl
-
-pub ruleset refuse-laws = (refuse-accepted, refuse-refused)
-
+-- ---- the whole
 -- the jobs that run are those of the answer
 serial-same : (M : Machine) (T : ℕ → ℕ) (s t : ℕ → M .S) (n : ℕ) → ((k : ℕ) → k < n → s k ≡ t k) → serial M T s n ≡ serial M T t n
 unfolding serial
@@ -165,16 +156,16 @@ by-cells l n f e q =
 
 module _ (start output paper : List ℕ) where
   pub wrong-start : (length start ≡ 256 → ⊥) → Serves start output paper WrongTable output
-  unfolding numbersOf serialAnswer serialTable unlessWrong
+  unfolding openingOf serialAnswer serialTable unlessWrong
   wrong-start e = record { answer = rw (ne-eqb _ _ e) refl; table = rw (ne-eqb _ _ e) refl }
 
   module _ (es : length start ≡ 256) where
     pub wrong-output : (length output ≡ 256 → ⊥) → Serves start output paper WrongTable output
-    unfolding numbersOf serialAnswer serialTable unlessWrong
+    unfolding openingOf serialAnswer serialTable unlessWrong
     wrong-output e = record { answer = rw (es, ne-eqb _ _ e) refl; table = rw (es, ne-eqb _ _ e) refl }
 
     module _ (eo : length output ≡ 256) (r : Checked) (er : Answers r (paperAnswer paper)) where
-      pub serve-refused : (s : Served) (f : Fault) (g : Field) (p : Place) → r .verdict ≡ RefusedPaper f g p → numbersOf s ≡ refusal (answerOf (r .verdict) 0 []) → Serves start output paper s output
+      pub serve-refused : (s : Opening) (f : Fault) (g : Field) (p : Place) → r .verdict ≡ RefusedPaper f g p → openingOf s ≡ refusal (answerOf (r .verdict) 0 []) → Serves start output paper s output
       unfolding serialAnswer serialTable unlessWrong outputAfter
       serve-refused s f g p e q =
           let a : refused (number f) (g .0) (p .0) ≡ paperAnswer paper = ap (λ (v : Verdict). answerOf v (r .count) (r .jobs)) (sym e) ∙ er .answer in
@@ -188,7 +179,7 @@ module _ (start output paper : List ℕ) where
         serve-pass = record { pass = λ k l. record { passed = rw (job-is k l) at (accepted-jobs paper (jobsOf r) (sym (accepted paper r er e)) .1 k (rw (jobs-long r) l)) } }
 
         pub serve-ran : (copied after : List ℕ) → copied ≡ start → RunsAll (r .jobs) (r .count) copied after → Serves start output paper Ran after
-        unfolding numbersOf serialAnswer serialTable unlessWrong outputAfter ranOn
+        unfolding openingOf serialAnswer serialTable unlessWrong outputAfter ranOn
         serve-ran copied after ec ra = record {
           answer = rw (es, eo, ← accepted paper r er e) refl;
           table = rw (es, eo, ← accepted paper r er e) (by-cells after 256 (ranOn start (jobsOf r)) (ra .size) (ra .cells ∙ same));

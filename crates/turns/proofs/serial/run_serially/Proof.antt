@@ -26,8 +26,8 @@ enum-told c = search needs
 enum-told-2 : tie.Need-enum-told-2
 enum-told-2 c = search needs
 
-refuse-run-requires : tie.Need-refuse-run-requires
-refuse-run-requires c κs = search needs
+refuse-opening-requires : tie.Need-refuse-opening-requires
+refuse-opening-requires c κs = search needs
 
 returns-3 : tie.Need-returns-3
 returns-3 c = search (serve-laws, needs)
@@ -55,7 +55,7 @@ run-serially-spec =
     check-paper-requires
     enum-told
     enum-told-2
-    refuse-run-requires
+    refuse-opening-requires
     returns-3
     copy-table-requires
     run-jobs-requires
