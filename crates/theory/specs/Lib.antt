@@ -5,6 +5,7 @@ pub mod Run
 pub mod Word
 pub mod Engine
 pub mod Serial
+pub mod Scenarios
 pub mod Every
 pub mod Versions
 pub mod Runs
