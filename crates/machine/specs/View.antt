@@ -1,9 +1,10 @@
 -- What the structs of the code stand for: a stack is the list of its entries, top first; a job is the list of its instructions.
 -- Entries past a count stand for nothing.
-use mathlib.Core.Path.{_≡_}
+use mathlib.Core.Path.{_≡_, refl, ap}
 use mathlib.Core.List.{List, [], _∷_, map}
-use Prim.Native.Nat.{ℕ, zero, suc, _+_}
-use lib.ListN.{getD}
+use Prim.Native.Nat.{ℕ, zero, suc, _+_, _<_}
+use native.Mathlib.Omega.{arith}
+use lib.ListN.{length, getD}
 use Rattle.theory.specs.Lists.{firsts}
 use Rattle.theory.specs.Promise.{Act, nothing, read, write, stop, abandon, stuck}
 use Rattle.machine.specs.Machine.{State, stopping, act, stepped}
@@ -27,6 +28,10 @@ use Rattle.machine.specs.declared.step.Act.the-variants.{Nothing, Read, 
 abbrev pub tops : ℕ → List ℕ → List ℕ
 tops zero es = []
 tops (suc h) es = getD es h 0 ∷ tops h es
+
+pub length-tops : (h : ℕ) (es : List ℕ) → length (tops h es) ≡ h
+length-tops zero es = refl
+length-tops (suc h) es = ap suc (length-tops h es)
 
 abbrev pub stackOf : Stack → List ℕ
 stackOf s = tops (s .height) (s .entries)
@@ -64,6 +69,19 @@ number NotLed = 8
 number Entries = 9
 number Heights = 10
 number TooMany = 11
+
+pub number-some : (f : Fault) → 0 < number f
+number-some Head = omega arith
+number-some Tag = omega arith
+number-some Jobs = omega arith
+number-some Length = omega arith
+number-some Code = omega arith
+number-some Operand = omega arith
+number-some LeadsOn = omega arith
+number-some NotLed = omega arith
+number-some Entries = omega arith
+number-some Heights = omega arith
+number-some TooMany = omega arith
 
 unfoldable pub findingOf : Check → Finding
 findingOf Passes = sound

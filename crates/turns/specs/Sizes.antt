@@ -11,7 +11,7 @@ use Rattle.theory.specs.Engine as E
 use Rattle.machine.specs.Limits.{LONGEST, ROOM, FEW, JOBS, CELLS}
 use Rattle.machine.specs.Instruction.{known, fits}
 use Rattle.machine.specs.Machine.{Running, stopping, formed, sizes}
-use Rattle.machine.specs.View.{tops, codeOf, noJob}
+use Rattle.machine.specs.View.{codeOf, noJob, length-tops}
 use Rattle.machine.specs.declared.instruction.Instruction.{Instruction}
 use Rattle.machine.specs.declared.job.Job.{Job}
 use Rattle.machine.specs.declared.job.State.{State}
@@ -114,10 +114,6 @@ module _ {A : Type 0} where
 
   all-tab : (g : A → Bool) (n : ℕ) (f : ℕ → A) → E.all g (tab n f) ≡ passes (λ i. g (f i)) 0 n
   all-tab g n f = ap (E.all g) (tab-span n f) ∙ all-span g f 0 n
-
-length-tops : (h : ℕ) (es : List ℕ) → length (tops h es) ≡ h
-length-tops zero es = refl
-length-tops (suc h) es = ap suc (length-tops h es)
 
 -- the machine's own test of a state, whose job's instructions are tested once
 state-fits : (j : Job) (s : State) → sizes LONGEST ROOM (runningOf (codeOf j) s) ≡ codeWithin j && standsIn (j .size) s

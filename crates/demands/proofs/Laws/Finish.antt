@@ -13,10 +13,9 @@ use Rattle.theory.specs.Finals.{finals-turns}
 use Rattle.theory.specs.Sizes.{turns-fit}
 use Rattle.machine.specs.Limits.{CELLS}
 use Rattle.machine.specs.Paper.{Answer, jobs, refused, refusal, paperAnswer}
-use Rattle.machine.specs.View.{number}
+use Rattle.machine.specs.View.{number, number-some}
 use Rattle.machine.specs.declared.instruction.Instruction.{Instruction}
 use Rattle.machine.specs.declared.verdict.Fault.{Fault}
-use Rattle.machine.specs.declared.verdict.Fault.the-variants as F
 use Rattle.machine.specs.declared.paper.Field.{Field}
 use Rattle.machine.specs.declared.counts.Place.{Place}
 use Rattle.turns.specs.Box.{box, limits, box-promise}
@@ -83,19 +82,6 @@ pub ruleset settle-laws = (settle-short, settle-long)
 refused-opened : (n f p : ℕ) (ts words : List ℕ) → opened (refused n f p) ts words ≡ refusedBy n f p
 unfolding opened
 refused-opened n f p ts words = refl
-
-number-some : (f : Fault) → 0 < number f
-number-some F.Head = omega arith
-number-some F.Tag = omega arith
-number-some F.Jobs = omega arith
-number-some F.Length = omega arith
-number-some F.Code = omega arith
-number-some F.Operand = omega arith
-number-some F.LeadsOn = omega arith
-number-some F.NotLed = omega arith
-number-some F.Entries = omega arith
-number-some F.Heights = omega arith
-number-some F.TooMany = omega arith
 
 module _ (start paper ts words table : List ℕ) where
   -- a refusal leaves everything as it was

@@ -7,12 +7,8 @@ use native.Mathlib.Omega.{arith}
 use native.Mathlib.Numerals.{add-one}
 use lib.ListN.{length, getD, drop, set, length-set}
 use lib.Seq.{getD-set-same, getD-set-other}
-use Rattle.machine.specs.View.{tops, stackOf}
+use Rattle.machine.specs.View.{tops, stackOf, length-tops}
 use Rattle.machine.specs.declared.job.Stack.{Stack}
-
-pub length-tops : (h : ℕ) (es : List ℕ) → length (tops h es) ≡ h
-length-tops zero es = refl
-length-tops (suc h) es = ap suc (length-tops h es)
 
 tops-above : (h k v : ℕ) (es : List ℕ) → h ≤ k → tops h (set es k v) ≡ tops h es
 tops-above zero k v es l = refl

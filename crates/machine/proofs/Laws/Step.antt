@@ -16,14 +16,13 @@ use Rattle.theory.specs.Promise.{nothing, read, write, stop, abandon}
 use Rattle.machine.specs.Instruction.{needs, changes, columns, known, fits, leadsOn, need, after}
 use Rattle.machine.specs.Machine.{State, cellOf, top, sum, difference, less, equal, stays, stackAfter, placeAfter, moved, placed, suffices, ready, asked, act, stepped, given}
 use Rattle.machine.specs.Able.{Able, able}
-use Rattle.machine.specs.View.{stackOf, stateOf, actOf, Steps}
+use Rattle.machine.specs.View.{stackOf, stateOf, actOf, Steps, length-tops}
 use Rattle.machine.specs.declared.counts.Place.{Place}
 use Rattle.machine.specs.declared.instruction.Instruction.{Instruction}
 use Rattle.machine.specs.declared.job.Stack.{Stack}
 use Rattle.machine.specs.declared.job.State.{State as CodeState}
 use Rattle.machine.specs.declared.step.Act.{Act as CodeAct}
 use Rattle.machine.specs.declared.step.Act.the-variants.{Stuck}
-use Rattle.machine.proofs.Laws.Stack.{length-tops}
 
 -- ---- what an able instruction finds, by its code
 module _ (i : Instruction) (s : CodeState) (able : Able i (stateOf s)) where

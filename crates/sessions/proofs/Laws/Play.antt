@@ -3,7 +3,7 @@
 use mathlib.Core.Path.{_≡_, refl, ap, _∙_}
 use mathlib.Core.Bool.{true, false, not}
 use mathlib.Core.List.{List, [], _∷_}
-use Prim.Native.Nat.{ℕ, suc, _+_, _-_, _^_, _≤_, _<_}
+use Prim.Native.Nat.{ℕ, zero, suc, _+_, _-_, _^_, _≤_, _<_}
 use native.Mathlib.Omega.{arith}
 use lib.ListN.{length, take, drop, length-drop, length-map}
 use lib.Seq.{take-all}
@@ -15,9 +15,8 @@ use Rattle.theory.specs.Engine as E
 use Rattle.theory.specs.Finals.{finalWord, finals-turn}
 use Rattle.theory.specs.Sizes.{turns-fit}
 use Rattle.machine.specs.Machine.{Running}
-use Rattle.machine.specs.View.{number}
+use Rattle.machine.specs.View.{number, number-some}
 use Rattle.machine.specs.declared.verdict.Fault.{Fault}
-use Rattle.machine.specs.declared.verdict.Fault.the-variants as F
 use Rattle.machine.specs.declared.paper.Field.{Field}
 use Rattle.machine.specs.declared.counts.Place.{Place}
 use Rattle.turns.specs.Box.{box, limits, box-promise}
@@ -111,19 +110,10 @@ module _ (b : Block) (fits : E.blockFits limits box (blockOf b) ≡ true) (befor
       rw t at p
 
 -- ---- what became of an opening
-numbered : (f : Fault) (field place : ℕ) (text : List ℕ) → refusedLine (number f, field, place) ≡ unlessRefused (number f, field, place) text
+numbered : (n field place : ℕ) (text : List ℕ) → 0 < n → refusedLine (n, field, place) ≡ unlessRefused (n, field, place) text
 unfolding unlessRefused
-numbered F.Head field place text = refl
-numbered F.Tag field place text = refl
-numbered F.Jobs field place text = refl
-numbered F.Length field place text = refl
-numbered F.Code field place text = refl
-numbered F.Operand field place text = refl
-numbered F.LeadsOn field place text = refl
-numbered F.NotLed field place text = refl
-numbered F.Entries field place text = refl
-numbered F.Heights field place text = refl
-numbered F.TooMany field place text = refl
+numbered zero field place text l = absurd (omega arith)
+numbered (suc n) field place text l = refl
 
 module _ (a : Opening) (text out end : List ℕ) (n : ℕ) where
   pub opened-played : a ≡ Accepted → Puts out 0 text end n → Puts out 0 (unlessRefused (openingOf a) text) end n
@@ -137,7 +127,7 @@ module _ (a : Opening) (text out end : List ℕ) (n : ℕ) where
   pub opened-refused : (f : Fault) (field : Field) (place : Place) (x : ℕ) → a ≡ Refused f field place → x ≡ number f → Puts out 0 (refusedLine (x, field .0, place .0)) end n
       → Puts out 0 (unlessRefused (openingOf a) text) end n
   unfolding openingOf
-  opened-refused f field place x e q p = rw (e, ← numbered f (field .0) (place .0) text, ← q) p
+  opened-refused f field place x e q p = rw (e, ← numbered (number f) (field .0) (place .0) text (number-some f), ← q) p
 
 pub ruleset opened-laws = (opened-played, opened-wrong, opened-refused)
 
