@@ -14,6 +14,7 @@ use Rattle.machine.specs.Machine.{stays, stackAfter, placeAfter, moved, placed,
 use Rattle.machine.specs.Verdict.{scan, formOf, formAt, endOf, brought, entriesAt, sizeOf, flowOf, verdictOf}
 use Rattle.machine.specs.Paper.{little, instruction, instructions, size, jobOf, later, frameOf, fieldOf, fields}
 use Rattle.turns.specs.Box.{box, limits}
+use Rattle.turns.specs.Many.{words}
 use Rattle.turns.specs.Open.{openedBy, openBlock, openAnswer}
 
 -- an instruction: its code and its operand, which is a byte here
@@ -61,10 +62,6 @@ zeros = replicate CELLS 0
 abbrev reached : List ℕ → List ℕ → E.Block Running
 reached paper ts = E.turns limits box (openBlock zeros paper) ts
 
-abbrev words : E.Block Running → List ℕ → List W.Word
-words b [] = []
-words b (t ∷ ts) = E.turn limits box b t .word ∷ words (E.turn limits box b t .block) ts
-
 abbrev f : E.Block Running → ℕ
 f b = E.finals limits box (b .jobs)
 
@@ -104,5 +101,5 @@ table =
     line (stack (job (push 5 ∷ push 3 ∷ sub ∷ stop ∷ [])) (1 ∷ 1 ∷ 1 ∷ [])) (holds (18446744073709551614 ∷ [])) ∷ []
 
 pub on-the-edge : map answer (map (λ l. l .question) table) ≡ map (λ l. l .expected) table
-unfolding openAnswer openBlock openedBy E.turn E.turns E.blockFits E.jobFits E.move sizes formed fields fieldOf frameOf size later jobOf little instruction instructions verdictOf flowOf sizeOf scan formOf formAt endOf brought entriesAt need after known fits leadsOn jumps act ready placed suffices asked moved stackAfter stays placeAfter
+unfolding words openAnswer openBlock openedBy E.turn E.turns E.blockFits E.jobFits E.move sizes formed fields fieldOf frameOf size later jobOf little instruction instructions verdictOf flowOf sizeOf scan formOf formAt endOf brought entriesAt need after known fits leadsOn jumps act ready placed suffices asked moved stackAfter stays placeAfter
 on-the-edge = refl

@@ -64,7 +64,7 @@ pub record Finishes (start paper ts words table : List ℕ) (r : Finished) (word
   pub settled : table′ ≡ afterwards (outcome start paper ts words table) table (λ js. firstRun start js (r .f))
 
 -- ---- the part after the opening, from a block that fits
-pub record Settles (b : E.Block Running) (ts words table : List ℕ) (r : Finished) (words′ table′ : List ℕ) : Type 0 where
+pub record TurnsSettle (b : E.Block Running) (ts words table : List ℕ) (r : Finished) (words′ table′ : List ℕ) : Type 0 where
   pub answer : numbersOf (r .answer) ≡ ifLong ts words (0, 0, 0) (15, 0, 0)
   pub count : r .f ≡ ifLong ts words (E.finals limits box (E.turns limits box b ts .jobs)) 0
   pub bytes : words′ ≡ ifLong ts words (bytes b ts) words

@@ -16,7 +16,7 @@ ghost use Rattle.theory.specs.Engine.{blockFits};
 ghost use Rattle.machine.specs.Limits.{CELLS};
 ghost use Rattle.turns.specs.Box.{box, limits};
 ghost use Rattle.turns.specs.Block.{blockOf};
-ghost use Rattle.demands.specs.Finish.{Settles, Finishes};
+ghost use Rattle.demands.specs.Finish.{TurnsSettle, Finishes};
 
 pub enum Finishing {
     Settled,
@@ -34,7 +34,7 @@ pub struct Finished {
 // The tickets take their turns in order, with a byte lent for each, and the table is settled.
 fn settle_turned(b: Block, tickets: &[u8], words: &mut [u8], table: &mut [u64]) -> Finished
     requires { ⌜ (blockFits limits box (blockOf b) ≡ true) × (length (now table) ≡ CELLS) ⌝ }
-    ensures { λ r. ⌜ Settles (blockOf b) (now (tickets .entry)) (now (words .entry)) (now (table .entry)) r (now (words .exit)) (now (table .exit)) ⌝ }
+    ensures { λ r. ⌜ TurnsSettle (blockOf b) (now (tickets .entry)) (now (words .entry)) (now (table .entry)) r (now (words .exit)) (now (table .exit)) ⌝ }
 {
     let taken = take_turns(b, tickets, words);
     let answer = taken.answer;

@@ -11,13 +11,14 @@ use Rattle.turns.specs.Open.{openAnswer, openBlock}
 use Rattle.sessions.specs.Text.{wordText, turnLine, cellLines, refusedLine, Puts}
 use Rattle.sessions.specs.Fields.{Session, session, malformed, sessionOf}
 
--- a line for each turn, then the settled cells
+-- a line for each turn
 unfoldable pub turnLines : E.Block Running → List ℕ → List ℕ
 turnLines b [] = []
 turnLines b (t ∷ ts) =
     let r = E.turn limits box b t in
     turnLine t (wordText (r .word)) (E.finals limits box (r .block .jobs)) ++ turnLines (r .block) ts
 
+-- the turns, then the settled cells that are not 0
 unfoldable pub played : E.Block Running → List ℕ → List ℕ
 played b ts = turnLines b ts ++ cellLines 0 (E.settled limits box (E.turns limits box b ts))
 

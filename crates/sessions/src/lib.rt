@@ -1,3 +1,4 @@
-pub mod fields;
+// A session: its bytes to the text of what happened.
+mod fields;
 pub mod play;
-pub mod text;
+mod text;

@@ -7,7 +7,7 @@ ghost use lib.ListN.{length};
 ghost use Rattle.sessions.specs.Text.{decimal, byteText, finalByte, spaced, lastOf, named, turnLine, byteLines, cellLine, cellLines, whereOf, refusedLine, Puts};
 
 // One byte at a place.
-pub(crate) fn put(out: &mut [u8], at: usize, b: u8) -> usize
+fn put(out: &mut [u8], at: usize, b: u8) -> usize
     requires { ⌜ at ≤ length (now out) ⌝ }
     ensures { λ r. ⌜ Puts (now (out .entry)) at (b ∷ []) (now (out .exit)) r ⌝ }
 {
@@ -18,7 +18,7 @@ pub(crate) fn put(out: &mut [u8], at: usize, b: u8) -> usize
     at
 }
 
-pub(crate) fn put_all(out: &mut [u8], at: usize, bytes: &[u8]) -> usize
+fn put_all(out: &mut [u8], at: usize, bytes: &[u8]) -> usize
     requires { ⌜ at ≤ length (now out) ⌝ }
     ensures { λ r. ⌜ Puts (now (out .entry)) at (now (bytes .entry)) (now (out .exit)) r ⌝ }
 {
@@ -32,7 +32,7 @@ pub(crate) fn put_all(out: &mut [u8], at: usize, bytes: &[u8]) -> usize
 }
 
 // A number in decimal, by recursion on the number, which falls to its first digit.
-pub(crate) fn put_decimal(out: &mut [u8], at: usize, n: u64) -> usize
+fn put_decimal(out: &mut [u8], at: usize, n: u64) -> usize
     requires { ⌜ at ≤ length (now out) ⌝ }
     ensures { λ r. ⌜ Puts (now (out .entry)) at (decimal n) (now (out .exit)) r ⌝ }
 {

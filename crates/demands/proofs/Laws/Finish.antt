@@ -31,7 +31,7 @@ use Rattle.turns.specs.declared.open.Opened.{Opened}
 use Rattle.turns.specs.declared.open.Opening.the-variants.{Accepted, WrongTable as WrongStart, Refused as RefusedPaper}
 use Rattle.turns.specs.declared.settled.Settled as D
 use Rattle.demands.specs.Numbered.{refused-numbered}
-use Rattle.demands.specs.Finish.{refusedBy, ran, opened, outcome, numbersOf, numbers, firstRun, afterwards, Finishes, Settles}
+use Rattle.demands.specs.Finish.{refusedBy, ran, opened, outcome, numbersOf, numbers, firstRun, afterwards, Finishes, TurnsSettle}
 use Rattle.demands.specs.declared.finish.Finished.{Finished}
 use Rattle.demands.specs.declared.finish.Finishing.the-variants.{Settled, WrongTable, Refused, WrongLength}
 
@@ -50,7 +50,7 @@ module _ (b : Block) (ts words : List ℕ) (r : Taken) (words′ : List ℕ) (ta
       go (yes q) = q
       go (no q) = absurd (let z : _≡_ {A = ℕ} 0 15 = ap takingOf (sym e) ∙ taken .answer ∙ rw (ne-eqb (length words) (length ts) q) refl in omega arith)
 
-  pub settle-short : (table : List ℕ) → r .answer ≡ NotTaken → Settles (blockOf b) ts words table (record { answer = WrongLength; f = 0 }) words′ table
+  pub settle-short : (table : List ℕ) → r .answer ≡ NotTaken → TurnsSettle (blockOf b) ts words table (record { answer = WrongLength; f = 0 }) words′ table
   unfolding ifLong numbersOf
   settle-short table e =
       let q = ne-eqb (length words) (length ts) (not-long e) in
@@ -65,7 +65,7 @@ module _ (b : Block) (ts words : List ℕ) (r : Taken) (words′ : List ℕ) (ta
     fits-still = rw block-is (turns-fit limits box box-promise (blockOf b) ts fits)
 
     pub settle-long : (table : List ℕ) (s : D.Settled) (table′ : List ℕ) → length table ≡ CELLS → S.Settles (r .block) table s table′
-        → Settles (blockOf b) ts words table (record { answer = Settled; f = s .f }) words′ table′
+        → TurnsSettle (blockOf b) ts words table (record { answer = Settled; f = s .f }) words′ table′
     unfolding ifLong numbersOf S.settledCount S.settledTable S.unlessUnsettled
     settle-long table s table′ l h =
         let q = eq-eqb (length words) (length ts) (is-long e) in
@@ -141,7 +141,7 @@ module _ (start paper ts words table : List ℕ) where
           refusing (record { answer = Refused f g p; f = 0 }) (number f) (g .0) (p .0)
           (refused-outcome (number f, g .0, p .0) (sym (opens .answer) ∙ ap openingOf e) (number-some f)) refl refl
 
-      module _ (r : Finished) (words′ table′ : List ℕ) (settles : Settles (blockOf (o .block)) ts words table r words′ table′) where
+      module _ (r : Finished) (words′ table′ : List ℕ) (settles : TurnsSettle (blockOf (o .block)) ts words table r words′ table′) where
         -- the jobs of an accepted paper
         module _ (js : List (List Instruction)) (l : length start ≡ CELLS) (accepted : paperAnswer paper ≡ jobs js) where
           is-ran : length words ≡ length ts → outcome start paper ts words table ≡ ran js
