@@ -1,5 +1,5 @@
 -- Small runs on a toy machine in which each rule of the engine matters, computed: all jobs become final and the settled table is the serial
--- run. With one of the rules changed, one of these runs settles another table.
+-- run. With one of the rules changed, one of these runs settles another table, or is stuck.
 use mathlib.Core.Path.{_≡_, refl}
 use mathlib.Core.Bool.{true, cond}
 use mathlib.Core.List.{List, [], _∷_, _++_, map}
