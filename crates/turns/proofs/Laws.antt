@@ -10,6 +10,9 @@ pub mod Alone
 pub mod Accepted
 pub mod Serial
 pub mod Turn
+pub mod Placed
+pub mod Take
+pub mod Store
 pub mod Open
 pub mod Settled
 pub mod Sizes

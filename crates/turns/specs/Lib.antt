@@ -6,6 +6,7 @@ pub mod Block
 pub mod Becomes
 pub mod Moves
 pub mod Turn
+pub mod Own
 pub mod Many
 pub mod Open
 pub mod SerialRun

@@ -1,6 +1,6 @@
 -- One turn on the code's block: the words, what a move does, and the plain moves of the job at a place.
 use mathlib.Core.Path.{_≡_}
-use mathlib.Core.Bool.{Bool, true, false, cond, _&&_}
+use mathlib.Core.Bool.{Bool, true, false, cond, _&&_, _||_}
 use mathlib.Core.Option.{Option, none, some}
 use mathlib.Core.List.{List}
 use Prim.Native.Nat.{ℕ, zero, suc, _+_, _*_, _≤_, _<_}
@@ -71,6 +71,10 @@ stepping b i = E.instructed FEW box (cells b) (jobs b) i (jobOf b i) (box .act (
 
 unfoldable pub moving : Block → ℕ → E.Moved Running
 moving b i = E.ruled FEW box (cells b) (jobs b) i (jobOf b i) (jobOf b i .status) (jobOf b i .mark)
+
+-- is a ticket none of a block of so many jobs?
+abbrev pub foreign : ℕ → ℕ → Bool
+foreign n t = eqb t 0 || ltb n t
 
 -- the words that leave a block as it was
 unfoldable pub leaves : W.Word → Bool

@@ -1,10 +1,18 @@
 // A list of tickets, each given its turn: one byte says what became of it.
 use crate::block::Block;
+use crate::own::around_of;
+use crate::own::own_of;
+use crate::own::reads_after;
+use crate::own::slot_of;
+use crate::own::take_own;
+use crate::sizes::block_fits;
 use crate::turn::Word;
-use crate::turn::turn;
+use crate::turn::is_foreign;
+use crate::turn::place_of;
 use machine::counts::Ticket;
 ghost use mathlib.Core.Path.{_≡_};
-ghost use Rattle.turns.specs.Turn.{wordOf};
+ghost use mathlib.Core.Bool.{not, _||_};
+ghost use Rattle.turns.specs.Turn.{wordOf, foreign};
 ghost use Rattle.turns.specs.Many.{byteOf, Takes};
 
 pub enum Taking {
@@ -34,8 +42,18 @@ fn byte_of(word: Word) -> u8
     }
 }
 
-// The tickets take their turns in order; there must be a byte for each.
-pub fn take_turns(b: Block, tickets: &[u8], words: &mut [u8]) -> Taken
+// Whether a turn is refused, by 14 or by 20.
+fn is_refused(t: Ticket, count: u8, fits: bool) -> bool
+    ensures { λ r. ⌜ r ≡ foreign count (t .0) || not fits ⌝ }
+{
+    if is_foreign(t, count) {
+        return true;
+    }
+    !fits
+}
+
+// The tickets take their turns in order, in this function's own block; there must be a byte for each.
+pub fn take_turns(mut b: Block, tickets: &[u8], words: &mut [u8]) -> Taken
     ensures { λ r. ⌜ Takes b (now (tickets .entry)) (now (words .entry)) r (now (words .exit)) ⌝ }
 {
     if words.len() != tickets.len() {
@@ -44,17 +62,47 @@ pub fn take_turns(b: Block, tickets: &[u8], words: &mut [u8]) -> Taken
             block: b,
         };
     }
-    let mut block = b;
+    let fits = block_fits(b);
     let mut k: usize = 0;
     while k < tickets.len() {
-        let done = turn(block, Ticket(tickets[k]));
-        let word = done.word;
-        words[k] = byte_of(word);
-        block = done.block;
+        let at = k;
         k = k + 1;
+        let t = Ticket(tickets[at]);
+        if is_refused(t, b.count, fits) {
+            words[at] = 6;
+            continue;
+        }
+        let i = place_of(t);
+        let list = b.reads[i];
+        let slot = slot_of(i, list.size);
+        let mark = slot_of(i, list.mark);
+        let here = b.checkpoints[slot];
+        let own = own_of(
+            b.states[i],
+            b.status[i],
+            b.journals[i],
+            b.versions[i],
+            list,
+            here,
+        );
+        let around = around_of(b.status, b.journals, b.versions);
+        let done = take_own(b.jobs[i], own, b.checkpoints[mark], around, &b.start, t);
+        let word = done.word;
+        let after = done.own;
+        let state = after.state;
+        let journal = after.journal;
+        let versions = after.versions;
+        let saved = after.slot;
+        words[at] = byte_of(word);
+        b.states[i] = state;
+        b.status[i] = after.status;
+        b.journals[i] = journal;
+        b.versions[i] = versions;
+        b.checkpoints[slot] = saved;
+        b.reads = reads_after(b.reads, b.count, own, done, t);
     }
     Taken {
         answer: Taking::Taken,
-        block: block,
+        block: b,
     }
 }

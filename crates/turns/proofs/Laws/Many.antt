@@ -1,22 +1,26 @@
 -- A list of turns: what is left of the list, from the block so far, is the whole answer; and the bytes so far are the first of the whole.
 use mathlib.Core.Path.{_≡_, refl, ap, sym, _∙_}
-use mathlib.Core.List.{List, [], _∷_, _++_, append-nil, append-assoc}
+use mathlib.Core.Bool.{Bool, true, false, not, _||_}
+use mathlib.Core.List.{List, [], _++_, append-nil, append-assoc}
 use Prim.Native.Nat.{ℕ, _+_, _≤_, _<_}
 use native.Mathlib.Omega.{arith}
 use native.Mathlib.Numerals.{add-one}
-use lib.ListN.{length, getD, take, drop, set, drop-of-length-le}
+use lib.ListN.{length, getD, take, drop, set, length-set, drop-of-length-le}
 use lib.Seq.{take-suc-set, take-all, drop-cons}
 use borrow.Author.Tests.{ne-eqb, eq-eqb}
 use Rattle.theory.specs.Engine as E
-use Rattle.turns.specs.Box.{box, limits}
+use Rattle.theory.specs.Sizes.{turn-fits}
+use Rattle.turns.specs.Box.{box, box-promise, limits}
 use Rattle.turns.specs.Block.{blockOf}
-use Rattle.turns.specs.Turn.{wordOf, Turns}
+use Rattle.turns.specs.Turn.{wordOf, foreign, Turns}
+use Rattle.turns.specs.Own.{Long}
 use Rattle.turns.specs.Many.{words, byteOf, bytes, takingOf, ifLong, Takes}
 use Rattle.turns.specs.declared.block.Block.{Block}
 use Rattle.turns.specs.declared.turn.Word.{Word}
 use Rattle.turns.specs.declared.turn.Word.the-variants.{Idle, Back, Step, End, Final, Wait, BadTicket, Stuck}
 use Rattle.turns.specs.declared.turn.Turned.{Turned}
 use Rattle.turns.specs.declared.many.Taking.the-variants.{Taken as AllTaken, WrongLength}
+use Rattle.turns.proofs.Laws.Turn.{turn-foreign, turn-misfit}
 
 -- ---- the byte of a word
 module _ (w : Word) where
@@ -55,35 +59,58 @@ module _ (w : Word) where
 pub ruleset byte-laws = (byte-idle, byte-back, byte-step, byte-end, byte-final, byte-wait, byte-ticket, byte-stuck)
 
 -- ---- the loop
--- the tickets from the k-th on, from the block c, give the whole list's block and bytes, those before k being written
-pub record Going (b : Block) (ts : List ℕ) (c : Block) (k : ℕ) (written : List ℕ) : Type 0 where
+-- the tickets from the k-th on, from the block c, give the whole list's block and bytes, those before k being written; and a block that fits still does
+pub record Going (b : Block) (ts : List ℕ) (fits : Bool) (c : Block) (k : ℕ) (written : List ℕ) : Type 0 where
+  pub upto : k ≤ length ts
+  pub room : length written ≡ length ts
+  pub long : Long c
+  pub fitting : fits ≡ E.blockFits limits box (blockOf c)
   pub block : E.turns limits box (blockOf c) (drop k ts) ≡ E.turns limits box (blockOf b) ts
   pub words : take k written ++ bytes (blockOf c) (drop k ts) ≡ bytes (blockOf b) ts
 
-module _ (b : Block) (ts written : List ℕ) where
-  pub going-start : Going b ts b 0 written
-  going-start = record { block = refl; words = refl }
+module _ (b : Block) (ts : List ℕ) (fits : Bool) where
+  pub going-start : (written : List ℕ) → Long b → fits ≡ E.blockFits limits box (blockOf b) → length written ≡ length ts → Going b ts fits b 0 written
+  going-start written long e q = record { upto = omega arith; room = q; long = long; fitting = e; block = refl; words = refl }
 
-  module _ (c : Block) (k : ℕ) (g : Going b ts c k written) where
-    pub going-on : (r : Turned) (x : ℕ) → k < length ts → length written ≡ length ts → Turns c (getD ts k 0) r → x ≡ byteOf (wordOf (r .word))
-        → Going b ts (r .block) (k + 1) (set written k x)
-    unfolding E.turns bytes words
-    going-on r x l s t e =
-        let d = drop-cons ts k 0 l in
-        record {
-          block = rw (add-one k, t .block) (ap (E.turns limits box (blockOf c)) (sym d) ∙ g .block);
-          words =
-              rw (add-one k, take-suc-set written k x (omega arith), append-assoc, e, t .word, t .block)
-              (ap (λ (l : List ℕ). take k written ++ bytes (blockOf c) l) (sym d) ∙ g .words);
-        }
+  module _ (c : Block) (k : ℕ) (written : List ℕ) (g : Going b ts fits c k written) where
+    module _ (l : k < length ts) where
+      pub going-on : (r : Turned) (x : ℕ) → Turns c (getD ts k 0) r → Long (r .block) → x ≡ byteOf (wordOf (r .word)) → fits ≡ E.blockFits limits box (blockOf (r .block))
+          → Going b ts fits (r .block) (k + 1) (set written k x)
+      unfolding E.turns bytes words
+      going-on r x t long e f =
+          let d = drop-cons ts k 0 l in
+          record {
+            upto = omega arith;
+            room = length-set written k x ∙ g .room;
+            long = long;
+            fitting = f;
+            block = rw (add-one k, t .block) (ap (E.turns limits box (blockOf c)) (sym d) ∙ g .block);
+            words =
+                rw (add-one k, take-suc-set written k x (omega (arith, g .room)), append-assoc, e, t .word, t .block)
+                (ap (λ (l : List ℕ). take k written ++ bytes (blockOf c) l) (sym d) ∙ g .words);
+          }
 
-    module _ (l : length ts ≤ k) (s : length written ≡ length ts) where
+      -- a ticket that 14 or 20 refuses
+      pub going-refused : (x : Bool) → x ≡ (foreign (c .count) (getD ts k 0) || not fits) → x ≡ true → Going b ts fits c (k + 1) (set written k 6)
+      going-refused x e q = at (foreign (c .count) (getD ts k 0)) refl fits refl (sym e ∙ q)
+        where
+          at : (f : Bool) → foreign (c .count) (getD ts k 0) ≡ f → (h : Bool) → fits ≡ h → (f || not h) ≡ true → Going b ts fits c (k + 1) (set written k 6)
+          at true ef h eh z = going-on (record { word = BadTicket; block = c }) 6 (turn-foreign c (getD ts k 0) true (sym ef) refl) (g .long) (byte-ticket BadTicket refl) (g .fitting)
+          at false ef false eh z = going-on (record { word = Stuck; block = c }) 6 (turn-misfit c (getD ts k 0) false false (sym ef) refl (sym eh ∙ g .fitting) refl) (g .long) (byte-stuck Stuck refl) (g .fitting)
+          at false ef true eh z = absurd (let w : _≡_ {A = ℕ} 0 1 = cc in omega arith)
+
+      -- a turn that was taken
+      pub going-taken : (r : Turned) (x : ℕ) → fits ≡ true → Turns c (getD ts k 0) r → Long (r .block) → x ≡ byteOf (wordOf (r .word)) → Going b ts fits (r .block) (k + 1) (set written k x)
+      going-taken r x fit t long e =
+          going-on r x t long e (fit ∙ sym (ap (E.blockFits limits box) (t .block) ∙ turn-fits limits box box-promise (blockOf c) (getD ts k 0) (sym (g .fitting) ∙ fit)))
+
+    module _ (l : length ts ≤ k) where
       nothing-left : drop k ts ≡ []
       nothing-left = drop-of-length-le ts l
 
       all-written : written ≡ bytes (blockOf b) ts
       unfolding bytes words
-      all-written = sym (take-all k written (omega arith)) ∙ sym (append-nil (take k written)) ∙ rw nothing-left at (g .words)
+      all-written = sym (take-all k written (omega (arith, g .room))) ∙ sym (append-nil (take k written)) ∙ rw nothing-left at (g .words)
 
       all-taken : blockOf c ≡ E.turns limits box (blockOf b) ts
       unfolding E.turns
@@ -106,5 +133,3 @@ wrong-length b ts before differ = record {
   words = rw (ne-eqb _ _ differ) refl;
   left = λ q. refl;
 }
-
-pub ruleset many-laws = (going-start, going-on, taken-all, wrong-length)

@@ -22,7 +22,7 @@ use Rattle.machine.specs.declared.instruction.Instruction.{Instruction}
 use Rattle.machine.specs.declared.job.State.{State}
 use Rattle.turns.specs.View.{entryOf, entriesOf, journalOf, length-journal, placeAt, place-low, versionsOf, markOf, markByte, noJournal, noVersions, noRead, noReads, Showing}
 use Rattle.turns.specs.Block.{codeAt, noState, noCheckpoint, runningOf, checkpointOf, readOf, readsOf, jobOf}
-use Rattle.turns.specs.Marks.{shownIn, struckBy, firstFrom, strikesAt, markBy, markReads, sweep, ListsFit}
+use Rattle.turns.specs.Marks.{shownIn, struckBy, firstFrom, strikesAt, markBy, markReads, sweep}
 use Rattle.turns.specs.Becomes.{Becomes, quiet}
 use Rattle.turns.specs.Moves.{listingOf, Sized, Held, Adds}
 use Rattle.turns.specs.declared.block.Entry.{Entry}
@@ -278,9 +278,6 @@ swept b r i j old new lists inside z long eo en same er es ec own parts =
 abbrev showsAt : Block → ℕ → Shows
 showsAt b i = record { journal = getD (b .journals) i noJournal; versions = getD (b .versions) i noVersions }
 
-pub end-shown : (b : Block) (t : ℕ) → Sized b → 0 < t → t ≤ b .count → Showing (getD (b .journals) (t - 1) noJournal) (getD (b .versions) (t - 1) noVersions)
-end-shown b t z p l = z .showing .showing (t - 1) (omega arith)
-
 pub end-is : (b : Block) (t : Ticket) (new : Versions) (ls : List Reads) → 0 < t .0 → t .0 ≤ b .count → Sized b → length (b .status) ≡ 16 → length (b .versions) ≡ 16 → length (b .reads) ≡ 16
     → ls ≡ sweep (markReads (showsAt b (t .0 - 1)) (record { journal = getD (b .journals) (t .0 - 1) noJournal; versions = new }) (t .0)) (t .0) (b .count - t .0) (b .reads)
     → Becomes b (record {
@@ -353,7 +350,7 @@ module _ (b : Block) (i : ℕ) (c : Checkpoint) (held : Held b i c) where
   unfolding readsOf
   cut-reads is = sym (take-tab (c .listed) (getD (b .reads) i noReads .size) _ (held .listed))
 
-  back-is : (t : Ticket) (w : Versions) (ls : List Reads) → i ≡ t .0 - 1 → 0 < t .0 → t .0 ≤ b .count → Sized b
+  pub back-is : (t : Ticket) (w : Versions) (ls : List Reads) → i ≡ t .0 - 1 → 0 < t .0 → t .0 ≤ b .count → Sized b
       → length (b .states) ≡ 16 → length (b .status) ≡ 16 → length (b .journals) ≡ 16 → length (b .versions) ≡ 16 → length (b .reads) ≡ 16
       → versionsOf w ≡ withdrawn (c .writes) (versionsOf (getD (b .versions) i noVersions))
       → ls ≡ sweep (markReads (showsAt b i) (record { journal = cutJournal; versions = w }) (t .0)) (t .0) (b .count - t .0) (set (b .reads) i cutReads)
@@ -400,35 +397,6 @@ module _ (b : Block) (i : ℕ) (c : Checkpoint) (held : Held b i c) where
       ) refl)
       (λ k q. rw (getD-set-other (b .states) i k (c .state) noState q, getD-set-other (b .status) i k 0 0 q, getD-set-other (b .journals) i k cutJournal noJournal q, getD-set-other (b .versions) i k w noVersions q) refl)
 
-pub back-places : (b : Block) (t : ℕ) → Sized b → 0 < t → t ≤ b .count → getD (b .versions) (t - 1) noVersions .size ≤ 8
-back-places b t z p l = z .showing .showing (t - 1) (omega arith) .places
-
-pub back-lists : (b : Block) (i : ℕ) (cut : Reads) (c : Checkpoint) → Sized b → Held b i c → i < b .count → cut ≡ record { reads = getD (b .reads) i noReads .reads; size = c .listed; mark = 255 } → length (b .reads) ≡ 16
-    → ListsFit (set (b .reads) i cut) (b .count)
-back-lists b i cut c z h l e w = record { few = λ k m. go k m (ℕ-discrete k i) }
-  where
-    go : (k : ℕ) → k < b .count → Dec (k ≡ i) → getD (set (b .reads) i cut) k noReads .size ≤ 8
-    go k m (yes q) = rw (q, getD-set-same (b .reads) i cut noReads (omega (arith, z .count)), e) (omega (arith, h .listed, z .lists .few i l))
-    go k m (no q) = rw (getD-set-other (b .reads) i k cut noReads q) (z .lists .few k m)
-
 pub back-shown : (b : Block) (t : ℕ) (kept : Journal) (w : Versions) (c : Checkpoint) → Sized b → Held b (t - 1) c → 0 < t → t ≤ b .count
     → kept ≡ record { entries = getD (b .journals) (t - 1) noJournal .entries; size = c .writes } → versionsOf w ≡ withdrawn (c .writes) (versionsOf (getD (b .versions) (t - 1) noVersions)) → Showing kept w
 back-shown b t kept w c z h p l e q = rw e (back-showing (getD (b .journals) (t - 1) noJournal) (getD (b .versions) (t - 1) noVersions) w (c .writes) (z .showing .showing (t - 1) (omega arith)) (h .writes) q)
-
-pub back-done : (b : Block) (t : Ticket) (c : Checkpoint) (kept : Journal) (cut : Reads) (w : Versions) (ls : List Reads) → Held b (t .0 - 1) c → 0 < t .0 → t .0 ≤ b .count → Sized b
-    → length (b .states) ≡ 16 → length (b .status) ≡ 16 → length (b .journals) ≡ 16 → length (b .versions) ≡ 16 → length (b .reads) ≡ 16
-    → kept ≡ record { entries = getD (b .journals) (t .0 - 1) noJournal .entries; size = c .writes } → cut ≡ record { reads = getD (b .reads) (t .0 - 1) noReads .reads; size = c .listed; mark = 255 }
-    → versionsOf w ≡ withdrawn (c .writes) (versionsOf (getD (b .versions) (t .0 - 1) noVersions))
-    → ls ≡ sweep (markReads (showsAt b (t .0 - 1)) (record { journal = kept; versions = w }) (t .0)) (t .0) (b .count - t .0) (set (b .reads) (t .0 - 1) cut)
-    → Becomes b (record {
-      start = b .start;
-      count = b .count;
-      jobs = b .jobs;
-      states = set (b .states) (t .0 - 1) (c .state);
-      status = set (b .status) (t .0 - 1) 0;
-      journals = set (b .journals) (t .0 - 1) kept;
-      versions = set (b .versions) (t .0 - 1) w;
-      reads = ls;
-      checkpoints = b .checkpoints;
-    }) (t .0 - 1) (goBack (jobOf b (t .0 - 1)) (checkpointOf (codeAt b (t .0 - 1)) c))
-back-done b t c kept cut w ls h p l z w1 w2 w3 w4 w5 ek er ew e = rw ek (back-is b (t .0 - 1) c h t w ls refl p l z w1 w2 w3 w4 w5 ew (rw (ek, er) at e))

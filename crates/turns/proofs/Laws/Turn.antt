@@ -1,14 +1,14 @@
 -- One turn: each branch of the code is a clause of the plain rules, once the structs are read as what they stand for.
 use mathlib.Core.Path.{_≡_, refl, ap, sym, subst, _∙_}
-use mathlib.Core.Bool.{Bool, true, false, not, cond, _&&_, _||_}
+use mathlib.Core.Bool.{Bool, true, false, not, cond, _&&_}
 use mathlib.Core.Logic.{_⊎_, inl, inr}
 use mathlib.Core.Option.{Option, none, some}
 use mathlib.Core.List.{List, [], _∷_}
 use Prim.Native.Nat.{ℕ, zero, suc, _+_, _-_, _*_, _≤_, _<_}
 use native.Mathlib.Omega.{arith}
-use lib.Dec.{eqb, leb, ltb}
+use lib.Dec.{leb, ltb}
 use lib.ListN.{length, getD, drop, drop-of-length-le}
-use borrow.Author.Tests.{not-true, not-false, eq-eqb, ne-eqb, lt-ltb, le-ltb, le-leb}
+use borrow.Author.Tests.{not-true, eq-eqb, ne-eqb, lt-ltb, le-ltb, le-leb}
 use Rattle.theory.specs.Lists.{tab, length-tab, getD-tab, drop-tab, map-tab}
 use Rattle.theory.specs.Word as W
 use Rattle.theory.specs.Engine as E
@@ -17,7 +17,7 @@ use Rattle.theory.specs.Every.{every-at}
 use Rattle.theory.specs.Versions.{search-same, Below, published-below}
 use Rattle.machine.specs.Limits.{ROOM, FEW}
 use Rattle.machine.specs.Machine.{State as Plain, Running, given, inJob, current}
-use Rattle.machine.specs.View.{stateOf, actOf, noJob}
+use Rattle.machine.specs.View.{stateOf, actOf}
 use Rattle.machine.specs.declared.counts.Cell.{Cell}
 use Rattle.machine.specs.declared.job.State.{State}
 use Rattle.machine.specs.declared.step.Act.{Act as CodeAct}
@@ -30,7 +30,7 @@ use Rattle.turns.specs.Alone.{StepsIn}
 use Rattle.turns.specs.Becomes.{Becomes, becomes-changed}
 use Rattle.turns.specs.Fitting.{count-fit, block-fit}
 use Rattle.turns.specs.Moves.{listingOf, Sized, Held}
-use Rattle.turns.specs.Turn.{wordOf, leaves, listedFrom, listedIn, finalBelow, jobs, cells, outside, reading, writing, returning, stepping, moving, Did, Turns, Reading, Marked, Whole}
+use Rattle.turns.specs.Turn.{wordOf, leaves, listedFrom, listedIn, finalBelow, jobs, cells, outside, reading, writing, returning, stepping, moving, foreign, Did, Turns, Reading, Marked, Whole}
 use Rattle.turns.specs.declared.block.Entry.{Entry}
 use Rattle.turns.specs.declared.block.Read.{Read}
 use Rattle.turns.specs.declared.block.Reads.{Reads}
@@ -96,8 +96,6 @@ module _ (b : Block) (i : ℕ) (next : State) (e : Entry) where
   unfolding writing
   write-some r inside l h = rw (long, lt-ltb _ _ l) (step-did b i inside r (writeTo (jobOf b i) (runningOf (codeAt b i) next) (entryOf e)) h)
 
-pub ruleset write-laws = (write-full, write-some)
-
 -- ---- READ from outside
 version-is : (b : Block) (k c : ℕ) → versionAt (b .journals) (b .versions) k c ≡ E.version (jobOf b k) c
 unfolding versionAt jobOf E.shown
@@ -157,8 +155,6 @@ module _ (b : Block) (i : ℕ) where
           ≡ listTo (jobOf b i) (box .given (jobOf b i .state) (f .value)) (E.listing (jobOf b i) (c .0) (f .source .0, f .value))
       same = rw (given-at next s (c .0) (f .value) h es, listing-is (record { cell = c; source = f .source; value = f .value })) refl
 
-pub ruleset outside-laws = (inside-of, below-showing, outside-full, outside-some)
-
 -- ---- READ
 listed-rest : (c : ℕ) (rs : Reads) (f : Read → ℕ → E.Read Running) → ((x : Read) (k : ℕ) → (f x k .cell ≡ x .cell .0) × (f x k .value ≡ x .value)) → (k m : ℕ) → k + m ≡ rs .size
     → listedValue (drop k (tab (rs .size) (λ i. f (getD (rs .reads) i noRead) i))) c ≡ listedFrom rs c k m
@@ -204,11 +200,6 @@ module _ (b : Block) (i c : ℕ) where
 pub few-entries : (b : Block) (t : ℕ) → Sized b → 0 < t → t ≤ b .count → getD (b .journals) (t - 1) noJournal .size ≤ 8
 few-entries b t z p l = z .showing .showing (t - 1) (omega arith) .entries
 
-pub few-reads : (b : Block) (t : ℕ) → Sized b → 0 < t → t ≤ b .count → getD (b .reads) (t - 1) noReads .size ≤ 8
-few-reads b t z p l = z .lists .few (t - 1) (omega arith)
-
-pub ruleset reading-laws = (few-entries, few-reads)
-
 -- ---- one instruction, or the end
 lasts-few : (k : ℕ) (j : List E.Entry) → length (E.lastsFrom k j) ≤ length j
 lasts-few k [] = omega arith
@@ -239,13 +230,6 @@ abandon-showing b t new w p l e = record { entries = few-entries b t (w .sized) 
   where
     none : new .size ≡ 0
     none = sym (length-versions new) ∙ ap length e
-
-module _ (b : Block) (t : ℕ) (w : Whole b) (p : 0 < t) (l : t ≤ b .count) where
-  pub stand-in : getD (b .states) (t - 1) noState .place .0 < getD (b .jobs) (t - 1) noJob .size
-  stand-in = w .inside (t - 1) (omega arith)
-
-  pub stand-short : getD (b .jobs) (t - 1) noJob .size ≤ 64
-  stand-short = w .short (t - 1) (omega arith)
 
 module _ (b : Block) (i : ℕ) (done : Stepped) (h : StepsIn (codeAt b i) (getD (b .states) i noState) done) where
   abbrev told : CodeAct → E.Moved Running
@@ -291,8 +275,6 @@ module _ (b : Block) (i : ℕ) (done : Stepped) (h : StepsIn (codeAt b i) (getD 
 
   pub step-stuck : done .act ≡ StuckAct → Did b i (stepping b i) (record { word = Stuck; block = b })
   step-stuck e = rw (asks StuckAct e) (stuck-did b i (jobOf b i))
-
-pub ruleset stepping-laws = (inside-of, stand-in, stand-short, few-entries, stop-showing, abandon-showing, step-nothing, step-read, step-reading, step-write, step-stop, step-abandon, step-stuck)
 
 -- ---- the rules, in order
 is-final : (n : ℕ) → E.isFinal (statusOf n) ≡ leb 2 n
@@ -382,12 +364,8 @@ back-held b t w p l m = w .held (t - 1) (getD (b .reads) (t - 1) noReads .mark) 
 pub move-marked : (b : Block) (t : ℕ) → Whole b → 0 < t → t ≤ b .count → (getD (b .reads) (t - 1) noReads .mark ≡ 255 → ⊥) → Marked b (t - 1)
 move-marked b t w p l n = let m = w .marked (t - 1) (omega arith) n in record { at = m; low = omega (arith, m, w .sized .lists .few (t - 1) (omega arith)) }
 
-pub ruleset back-laws = (inside-of, back-held, return-is)
-
-pub ruleset moving-laws = (inside-of, move-marked, move-idle, move-back, move-step, move-final, move-wait)
-
 -- ---- the whole turn
-whole-fit : (b : Block) → E.blockFits limits box (blockOf b) ≡ true → Whole b
+pub whole-fit : (b : Block) → E.blockFits limits box (blockOf b) ≡ true → Whole b
 whole-fit b e = record {
   sized = record { count = count-fit b e; showing = record { showing = λ k l. block-fit b e k l .showing }; lists = record { few = λ k l. block-fit b e k l .reads } };
   short = λ k l. block-fit b e k l .code;
@@ -401,9 +379,6 @@ whole-fit b e = record {
     at k n (inl q) = absurd (n q)
     at k n (inr l) = l
 
-pub turn-whole : (b : Block) (fits : Bool) → fits ≡ E.blockFits limits box (blockOf b) → not fits ≡ false → Whole b
-turn-whole b fits e q = whole-fit b (sym e ∙ not-false fits q)
-
 job-count : (b : Block) → length (blockOf b .jobs) ≡ b .count
 unfolding blockOf
 job-count b = length-tab (b .count) (jobOf b)
@@ -413,25 +388,14 @@ unfolding E.move moving
 moved-is b i l = ap (λ (j : E.Job Running). E.ruled FEW box (cells b) (jobs b) i j (j .status) (j .mark)) (job-at b i l)
 
 module _ (b : Block) (t : ℕ) where
-  abbrev foreign : Bool
-  foreign = eqb t 0 || ltb (length (blockOf b .jobs)) t
-
-  refused : foreign ≡ true → Turns b t (record { word = BadTicket; block = b })
-  unfolding E.turn wordOf leaves
-  refused e = record { word = rw e refl; block = rw e refl; left = λ q. refl }
-
-  pub turn-zero : t ≡ 0 → Turns b t (record { word = BadTicket; block = b })
-  turn-zero e = refused (rw (eq-eqb t 0 e) refl)
-
-  pub turn-past : (t ≡ 0 → ⊥) → b .count < t → Turns b t (record { word = BadTicket; block = b })
-  turn-past n l = refused (rw (ne-eqb t 0 n, job-count b, lt-ltb (b .count) t l) refl)
-
-  asked : (t ≡ 0 → ⊥) → t ≤ b .count → foreign ≡ false
-  asked n l = rw (ne-eqb t 0 n, job-count b, le-ltb (b .count) t l) refl
-
-  pub turn-misfit : (fits : Bool) → (t ≡ 0 → ⊥) → t ≤ b .count → fits ≡ E.blockFits limits box (blockOf b) → not fits ≡ true → Turns b t (record { word = Stuck; block = b })
+  pub turn-foreign : (x : Bool) → x ≡ foreign (b .count) t → x ≡ true → Turns b t (record { word = BadTicket; block = b })
   unfolding E.turn wordOf
-  turn-misfit fits n l e q = record { word = rw (asked n l, ← e, not-true fits q) refl; block = rw (asked n l, ← e, not-true fits q) refl; left = λ x. refl }
+  turn-foreign x e q = record { word = rw (job-count b, ← e, q) refl; block = rw (job-count b, ← e, q) refl; left = λ z. refl }
+
+  pub turn-misfit : (x fits : Bool) → x ≡ foreign (b .count) t → x ≡ false → fits ≡ E.blockFits limits box (blockOf b) → not fits ≡ true → Turns b t (record { word = Stuck; block = b })
+  unfolding E.turn wordOf
+  turn-misfit x fits ex qx ef q =
+      record { word = rw (job-count b, ← ex, qx, ← ef, not-true fits q) refl; block = rw (job-count b, ← ex, qx, ← ef, not-true fits q) refl; left = λ z. refl }
 
   took : (m : E.Moved Running) → E.turn limits box (blockOf b) t ≡ E.moveTo limits box (blockOf b) (t - 1) (m .word) (m .job) → (r : Turned) → Did b (t - 1) m r → Turns b t r
   took m e r d = record {
@@ -450,11 +414,6 @@ module _ (b : Block) (t : ℕ) where
       said W.badTicket = refl
       said W.stuck = refl
 
-  pub turn-taken : (fits : Bool) (r : Turned) → (t ≡ 0 → ⊥) → t ≤ b .count → fits ≡ E.blockFits limits box (blockOf b) → not fits ≡ false → Did b (t - 1) (moving b (t - 1)) r → Turns b t r
+  pub turn-taken : (r : Turned) → foreign (b .count) t ≡ false → 0 < t → t ≤ b .count → E.blockFits limits box (blockOf b) ≡ true → Did b (t - 1) (moving b (t - 1)) r → Turns b t r
   unfolding E.turn
-  turn-taken fits r n l e q d = took (moving b (t - 1)) (rw (asked n l, ← e, not-false fits q, moved-is b (t - 1) (omega arith)) refl) r d
-
-pub turn-some : (t : ℕ) → (t ≡ 0 → ⊥) → 0 < t
-turn-some t n = omega arith
-
-pub ruleset turn-laws = (turn-zero, turn-past, turn-misfit, turn-whole, turn-taken, turn-some)
+  turn-taken r x p l e d = took (moving b (t - 1)) (rw (job-count b, x, e, moved-is b (t - 1) (omega arith)) refl) r d

@@ -1,0 +1,23 @@
+-- The journal, the list and the versions are cut where the checkpoint stands,
+-- and the mark is gone.
+use borrow.Author.Needs.{needs}
+use Rattle.turns.proofs.Laws.Take.{goes-is}
+use Rattle.turns.proofs.own.back_to.Statement.{statement}
+use Rattle.turns.proofs.own.back_to.Tie as tie
+use Rattle.turns.proofs.own.back_to.Reads as reads
+
+cut-journal-requires : tie.Need-cut-journal-requires
+cut-journal-requires c κs = search needs
+
+withdraw-requires : tie.Need-withdraw-requires
+withdraw-requires c κs = search needs
+
+cut-reads-requires : tie.Need-cut-reads-requires
+cut-reads-requires c κs = search needs
+
+returns : tie.Need-returns
+returns c = search (goes-is, needs)
+
+pub back-to-spec : {M : Type 1} → statement M
+back-to-spec =
+    tie.close (tie.spec cut-journal-requires withdraw-requires cut-reads-requires returns)

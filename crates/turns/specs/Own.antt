@@ -1,0 +1,199 @@
+-- The own parts of one job, what a turn makes of them, and the block in which they are placed.
+use mathlib.Core.Path.{_≡_}
+use mathlib.Core.Bool.{Bool, true, false, cond}
+use mathlib.Core.List.{List, [], _∷_, _++_}
+use Prim.Native.Nat.{ℕ, _+_, _-_, _*_, _≤_, _<_}
+use lib.Dec.{leb}
+use lib.ListN.{length, getD, set}
+use Rattle.theory.specs.Engine as E
+use Rattle.theory.specs.Engine.{withdrawn}
+use Rattle.machine.specs.Limits.{CELLS}
+use Rattle.machine.specs.Machine.{Running}
+use Rattle.machine.specs.View.{noJob}
+use Rattle.machine.specs.declared.job.State.{State}
+use Rattle.machine.specs.declared.job.Job.{Job}
+use Rattle.turns.specs.View.{entryOf, journalOf, versionsOf, noJournal, noVersions, noReads, Showing, ShowingBelow}
+use Rattle.turns.specs.Block.{noState, noCheckpoint}
+use Rattle.turns.specs.Marks.{Shown, markReads, sweep, ListsFit}
+use Rattle.turns.specs.Moves.{Adds}
+use Rattle.turns.specs.Turn.{Did, Reading, Whole}
+use Rattle.turns.specs.declared.block.Entry.{Entry}
+use Rattle.turns.specs.declared.block.Journal.{Journal}
+use Rattle.turns.specs.declared.block.Versions.{Versions}
+use Rattle.turns.specs.declared.block.Checkpoint.{Checkpoint}
+use Rattle.turns.specs.declared.block.Read.{Read}
+use Rattle.turns.specs.declared.block.Reads.{Reads}
+use Rattle.turns.specs.declared.block.Block.{Block}
+use Rattle.turns.specs.declared.marks.Shows.{Shows}
+use Rattle.turns.specs.declared.turn.Word.{Word}
+use Rattle.turns.specs.declared.turn.Word.the-variants.{Idle, Back, Step, End, Final, Wait, BadTicket, Stuck}
+use Rattle.turns.specs.declared.turn.Turned.{Turned}
+use Rattle.turns.specs.declared.own.Own.{Own}
+use Rattle.turns.specs.declared.own.Around.{Around}
+use Rattle.turns.specs.declared.own.Move.{Move}
+
+-- ---- what a rule makes of a job's parts
+abbrev pub still : Word → Own → Move
+still w o = record { word = w; own = o }
+
+abbrev pub stepped : Own → State → Move
+stepped o s = record { word = Step; own = record { state = s; status = o .status; journal = o .journal; versions = o .versions; list = o .list; slot = o .slot } }
+
+abbrev pub wrote : Own → State → Journal → Move
+wrote o s j = record { word = Step; own = record { state = s; status = o .status; journal = j; versions = o .versions; list = o .list; slot = o .slot } }
+
+abbrev pub listed : Own → State → Reads → Checkpoint → Move
+listed o s l c = record { word = Step; own = record { state = s; status = o .status; journal = o .journal; versions = o .versions; list = l; slot = c } }
+
+abbrev pub ended : Own → Versions → Move
+ended o v = record { word = End; own = record { state = o .state; status = 1; journal = o .journal; versions = v; list = o .list; slot = o .slot } }
+
+abbrev pub settledOwn : Own → Move
+settledOwn o = record { word = Final; own = record { state = o .state; status = 2; journal = o .journal; versions = o .versions; list = o .list; slot = o .slot } }
+
+abbrev pub wentBack : Own → State → Journal → Versions → Reads → Move
+wentBack o s j v l = record { word = Back; own = record { state = s; status = 0; journal = j; versions = v; list = l; slot = o .slot } }
+
+pub record Wrote (o : Own) (s : State) (e : Entry) (m : Move) : Type 0 where
+  pub journal : journalOf (m .own .journal) ≡ journalOf (o .journal) ++ (entryOf e ∷ [])
+  pub move : m ≡ wrote o s (m .own .journal)
+
+pub record Lists (o : Own) (s : State) (x : Read) (m : Move) : Type 0 where
+  pub adds : Adds (o .list) x (m .own .list)
+  pub move : m ≡ listed o s (m .own .list) (record { state = o .state; writes = o .journal .size; listed = o .list .size })
+
+-- ---- the parts of the job at place i of a block
+-- where the checkpoint of the n-th read of the job at place i stands; past the last of its eight, the last
+abbrev pub slotAt : ℕ → ℕ → ℕ
+slotAt i n = 8 * i + cond (leb 8 n) 7 n
+
+-- .. with the slot at s
+abbrev pub partsAt : Block → ℕ → ℕ → Own
+partsAt b i s = record {
+  state = getD (b .states) i noState;
+  status = getD (b .status) i 0;
+  journal = getD (b .journals) i noJournal;
+  versions = getD (b .versions) i noVersions;
+  list = getD (b .reads) i noReads;
+  slot = getD (b .checkpoints) s noCheckpoint;
+}
+
+abbrev pub ownOf : Block → ℕ → Own
+ownOf b i = partsAt b i (slotAt i (getD (b .reads) i noReads .size))
+
+abbrev pub showsOf : Own → Shows
+showsOf o = record { journal = o .journal; versions = o .versions }
+
+-- only back and end may change what is public
+abbrev pub marking : Word → Bool
+marking Idle = false
+marking Back = true
+marking Step = false
+marking End = true
+marking Final = false
+marking Wait = false
+marking BadTicket = false
+marking Stuck = false
+
+abbrev pub markedBy : Word → List Reads → ℕ → Shows → Shows → ℕ → List Reads
+markedBy w ls n old new t = cond (marking w) (sweep (markReads old new t) t (n - t) ls) ls
+
+-- a move of the job at place i stored in its block, the slot at s, with these lists of reads
+abbrev pub storedAt : Block → ℕ → ℕ → Move → List Reads → Block
+storedAt b i s m ls = record {
+  start = b .start;
+  count = b .count;
+  jobs = b .jobs;
+  states = set (b .states) i (m .own .state);
+  status = set (b .status) i (m .own .status);
+  journals = set (b .journals) i (m .own .journal);
+  versions = set (b .versions) i (m .own .versions);
+  reads = ls;
+  checkpoints = set (b .checkpoints) s (m .own .slot);
+}
+
+-- the block after ticket t's job has made this move
+unfoldable pub placed : Block → ℕ → Move → Block
+placed b t m =
+    let i = t - 1 in
+    storedAt b i (slotAt i (getD (b .reads) i noReads .size)) m (markedBy (m .word) (set (b .reads) i (m .own .list)) (b .count) (showsOf (ownOf b i)) (showsOf (m .own)) t)
+
+abbrev pub turnedBy : Block → ℕ → Move → Turned
+turnedBy b t m = record { word = m .word; block = placed b t m }
+
+-- the lengths of a block's arrays
+pub record Long (b : Block) : Type 0 where
+  pub start : length (b .start) ≡ CELLS
+  pub states : length (b .states) ≡ 16
+  pub status : length (b .status) ≡ 16
+  pub journals : length (b .journals) ≡ 16
+  pub versions : length (b .versions) ≡ 16
+  pub reads : length (b .reads) ≡ 16
+  pub checkpoints : length (b .checkpoints) ≡ 128
+
+-- what back makes of the parts
+pub record Goes (o : Own) (c : Checkpoint) (m : Move) : Type 0 where
+  pub versions : versionsOf (m .own .versions) ≡ withdrawn (c .writes) (versionsOf (o .versions))
+  pub move : m ≡ wentBack o (c .state) (record { entries = o .journal .entries; size = c .writes }) (m .own .versions) (record { reads = o .list .reads; size = c .listed; mark = 255 })
+
+-- ---- a move of the parts is the plain move of the job in any block whose parts they are
+pub record At (b : Block) (t : ℕ) (o : Own) : Type 0 where
+  pub some : 0 < t
+  pub inside : t ≤ b .count
+  pub whole : Whole b
+  pub long : Long b
+  pub own : o ≡ ownOf b (t - 1)
+
+pub record Done (b : Block) (t : ℕ) (p : E.Moved Running) (m : Move) : Type 0 where
+  pub did : Did b (t - 1) p (turnedBy b t m)
+  pub shown : marking (m .word) ≡ true → Showing (m .own .journal) (m .own .versions)
+  pub few : marking (m .word) ≡ true → m .own .list .size ≤ 8
+
+pub record Moves (o : Own) (Q : Block → ℕ → Type 0) (plain : Block → ℕ → E.Moved Running) (m : Move) : Type 0 where
+  pub on : (b : Block) (t : ℕ) → At b t o → Q b t → Done b t (plain b (t - 1)) m
+
+-- a WRITE needs nothing of the block
+pub record AtWrite (b : Block) (k : ℕ) : Type 0 where
+
+-- what a job sees of all
+abbrev pub aroundOf : Block → Around
+aroundOf b = record { status = b .status; journals = b .journals; versions = b .versions }
+
+pub record AtRead (seen : Around) (value t : ℕ) (next : State) (c : ℕ) (b : Block) (k : ℕ) : Type 0 where
+  pub ticket : k ≡ t
+  pub around : seen ≡ aroundOf b
+  pub start : value ≡ getD (b .start) c 0
+  pub reading : Reading b (k - 1) next c
+
+pub record AtCell (seen : Around) (cells : List ℕ) (t : ℕ) (next : State) (c : ℕ) (b : Block) (k : ℕ) : Type 0 where
+  pub ticket : k ≡ t
+  pub around : seen ≡ aroundOf b
+  pub start : cells ≡ b .start
+  pub reading : Reading b (k - 1) next c
+
+pub record AtStep (code : Job) (seen : Around) (cells : List ℕ) (t : ℕ) (b : Block) (k : ℕ) : Type 0 where
+  pub ticket : k ≡ t
+  pub around : seen ≡ aroundOf b
+  pub start : cells ≡ b .start
+  pub job : code ≡ getD (b .jobs) (k - 1) noJob
+
+pub record AtTurn (code : Job) (seen : Around) (cells : List ℕ) (c : Checkpoint) (t : ℕ) (b : Block) (k : ℕ) : Type 0 where
+  pub step : AtStep code seen cells t b k
+  pub back : c ≡ getD (b .checkpoints) (slotAt (k - 1) (getD (b .reads) (k - 1) noReads .mark)) noCheckpoint
+
+-- what the parts must be for the code to read them
+pub record Ready (job : Job) (o : Own) (seen : Around) (table : List ℕ) (t : ℕ) : Type 0 where
+  pub some : 0 < t
+  pub few : t ≤ 16
+  pub code : job .size ≤ 64
+  pub place : o .state .place .0 < job .size
+  pub showing : Showing (o .journal) (o .versions)
+  pub list : o .list .size ≤ 8
+  pub below : ShowingBelow (seen .journals) (seen .versions) (t - 1)
+  pub cells : length table ≡ CELLS
+
+-- what marking needs of the lists and of what the job shows, where a move may mark
+pub record MayMark (lists : List Reads) (n : ℕ) (o : Own) (m : Move) (t : ℕ) : Type 0 where
+  pub few : marking (m .word) ≡ true → ListsFit (set lists (t - 1) (m .own .list)) n
+  pub before : marking (m .word) ≡ true → Shown (showsOf o)
+  pub after : marking (m .word) ≡ true → Shown (showsOf (m .own))

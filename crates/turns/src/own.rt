@@ -1,0 +1,441 @@
+// One turn on the parts of its own job, so that the block stays where it is.
+use crate::block::Checkpoint;
+use crate::block::Entry;
+use crate::block::Journal;
+use crate::block::Read;
+use crate::block::Reads;
+use crate::block::Versions;
+use crate::journal::Found;
+use crate::journal::entry_at;
+use crate::journal::last_entry;
+use crate::journal::with_entry;
+use crate::marks::Shows;
+use crate::marks::mark_above;
+use crate::serial::instruct_at;
+use crate::turn::Word;
+use crate::versions::Shown;
+use crate::versions::find_version;
+use crate::versions::no_versions;
+use crate::versions::publish;
+use crate::versions::withdraw;
+use machine::counts::Cell;
+use machine::counts::Ticket;
+use machine::job::Job;
+use machine::job::State;
+use machine::step::Act;
+ghost use mathlib.Core.Path.{_≡_};
+ghost use Prim.Native.Nat.{_-_, _≤_, _<_};
+ghost use lib.ListN.{length, set};
+ghost use Rattle.theory.specs.Engine.{lastValue, orElse};
+ghost use Rattle.turns.specs.View.{journalOf, valueOf, ShowingBelow};
+ghost use Rattle.turns.specs.Moves.{Adds};
+ghost use Rattle.turns.specs.Turn.{listedIn, finalBelow, outside, reading, writing, stepping, moving};
+ghost use Rattle.turns.specs.Own.{stepped, ended, settledOwn, Wrote, Lists, Goes, Moves, AtWrite, AtRead, AtCell, AtStep, AtTurn, Ready, slotAt, showsOf, marking, markedBy, MayMark};
+
+// A job's own parts; the slot holds the checkpoint of its next listed read.
+pub(crate) struct Own {
+    pub state: State,
+    pub status: u8,
+    pub journal: Journal,
+    pub versions: Versions,
+    pub list: Reads,
+    pub slot: Checkpoint,
+}
+
+// What a job sees of all.
+pub(crate) struct Around {
+    pub status: [u8; 16],
+    pub journals: [Journal; 16],
+    pub versions: [Versions; 16],
+}
+
+// What a turn makes of a job's parts.
+pub(crate) struct Move {
+    pub word: Word,
+    pub own: Own,
+}
+
+pub(crate) fn own_of(
+    state: State,
+    status: u8,
+    journal: Journal,
+    versions: Versions,
+    list: Reads,
+    slot: Checkpoint,
+) -> Own
+    ensures { λ r. ⌜ r ≡ record { state = state; status = status; journal = journal; versions = versions; list = list; slot = slot } ⌝ }
+{
+    Own {
+        state: state,
+        status: status,
+        journal: journal,
+        versions: versions,
+        list: list,
+        slot: slot,
+    }
+}
+
+pub(crate) fn around_of(
+    status: [u8; 16],
+    journals: [Journal; 16],
+    versions: [Versions; 16],
+) -> Around
+    ensures { λ r. ⌜ r ≡ record { status = status; journals = journals; versions = versions } ⌝ }
+{
+    Around {
+        status: status,
+        journals: journals,
+        versions: versions,
+    }
+}
+
+// Where the checkpoint of the n-th read of the job at place i stands; past the last of its eight, the last.
+pub(crate) fn slot_of(i: usize, n: u8) -> usize
+    requires { ⌜ i < 16 ⌝ }
+    ensures { λ r. ⌜ (r ≡ slotAt i n) × (r < 128) ⌝ }
+{
+    if 8 <= n {
+        return 8 * i + 7;
+    }
+    8 * i + n as usize
+}
+
+// The value of the job's own listed read of a cell.
+fn listed_value(r: Reads, c: Cell) -> Shown
+    requires { ⌜ r .size ≤ 8 ⌝ }
+    ensures { λ x. ⌜ valueOf x ≡ listedIn r (c .0) ⌝ }
+{
+    let n = r.size;
+    let mut k: u8 = 0;
+    while k < n {
+        let x = r.reads[k as usize];
+        if x.cell.0 == c.0 {
+            return Shown::Value(x.value);
+        }
+        k = k + 1;
+    }
+    Shown::Nothing
+}
+
+// What the job holds of a cell itself: its own last entry, failing that its own listed read.
+fn own_value(j: Journal, r: Reads, c: Cell) -> Shown
+    requires { ⌜ (j .size ≤ 8) × (r .size ≤ 8) ⌝ }
+    ensures { λ x. ⌜ valueOf x ≡ orElse (lastValue (journalOf j) (c .0)) (listedIn r (c .0)) ⌝ }
+{
+    let found = last_entry(j, c);
+    let Found::At(place) = found else {
+        return listed_value(r, c);
+    };
+    let e = entry_at(j, place);
+    Shown::Value(e.value)
+}
+
+// Whether the jobs at the places below i are all final.
+fn all_final(status: [u8; 16], i: u8) -> bool
+    requires { ⌜ i ≤ 16 ⌝ }
+    ensures { λ r. ⌜ r ≡ finalBelow status i ⌝ }
+{
+    let mut k = i;
+    while 0 < k {
+        if status[(k - 1) as usize] < 2 {
+            return false;
+        }
+        k = k - 1;
+    }
+    true
+}
+
+fn step_to(own: Own, s: State) -> Move
+    ensures { λ r. ⌜ r ≡ stepped own s ⌝ }
+{
+    let mut r = own;
+    r.state = s;
+    Move {
+        word: Word::Step,
+        own: r,
+    }
+}
+
+fn write_to(own: Own, s: State, e: Entry) -> Move
+    requires { ⌜ own .journal .size < 8 ⌝ }
+    ensures { λ r. ⌜ Wrote own s e r ⌝ }
+{
+    let j = own.journal;
+    let mut r = own;
+    r.state = s;
+    r.journal = with_entry(j, e);
+    Move {
+        word: Word::Step,
+        own: r,
+    }
+}
+
+// One read more.
+fn with_read(r: Reads, x: Read) -> Reads
+    requires { ⌜ r .size < 8 ⌝ }
+    ensures { λ l. ⌜ Adds r x l ⌝ }
+{
+    let n = r.size;
+    let mut l = r;
+    l.reads[n as usize] = x;
+    l.size = n + 1;
+    l
+}
+
+// The read is listed, with its checkpoint: the state before it, the journal's length and the number of listed reads.
+fn list_to(own: Own, s: State, x: Read) -> Move
+    requires { ⌜ own .list .size < 8 ⌝ }
+    ensures { λ r. ⌜ Lists own s x r ⌝ }
+{
+    let list = own.list;
+    let j = own.journal;
+    let before = own.state;
+    let here = Checkpoint {
+        state: before,
+        writes: j.size,
+        listed: list.size,
+    };
+    let mut r = own;
+    r.state = s;
+    r.slot = here;
+    r.list = with_read(list, x);
+    Move {
+        word: Word::Step,
+        own: r,
+    }
+}
+
+fn end_with(own: Own, public: Versions) -> Move
+    ensures { λ r. ⌜ r ≡ ended own public ⌝ }
+{
+    let mut r = own;
+    r.status = 1;
+    r.versions = public;
+    Move {
+        word: Word::End,
+        own: r,
+    }
+}
+
+fn settle(own: Own) -> Move
+    ensures { λ r. ⌜ r ≡ settledOwn own ⌝ }
+{
+    let mut r = own;
+    r.status = 2;
+    Move {
+        word: Word::Final,
+        own: r,
+    }
+}
+
+// The journal up to its n-th entry.
+fn cut_journal(j: Journal, n: u8) -> Journal
+    ensures { λ r. ⌜ r ≡ record { entries = j .entries; size = n } ⌝ }
+{
+    let mut r = j;
+    r.size = n;
+    r
+}
+
+// The reads up to the n-th, with no mark.
+fn cut_reads(l: Reads, n: u8) -> Reads
+    ensures { λ r. ⌜ r ≡ record { reads = l .reads; size = n; mark = 255 } ⌝ }
+{
+    let mut r = l;
+    r.size = n;
+    r.mark = Reads::UNMARKED;
+    r
+}
+
+// A marked job goes back to the checkpoint of its earliest marked read.
+fn back_to(own: Own, c: Checkpoint) -> Move
+    requires { ⌜ own .versions .size ≤ 8 ⌝ }
+    ensures { λ r. ⌜ Goes own c r ⌝ }
+{
+    let j = own.journal;
+    let v = own.versions;
+    let list = own.list;
+    let state = c.state;
+    let mut r = own;
+    r.state = state;
+    r.status = 0;
+    r.journal = cut_journal(j, c.writes);
+    r.versions = withdraw(v, c.writes);
+    r.list = cut_reads(list, c.listed);
+    Move {
+        word: Word::Back,
+        own: r,
+    }
+}
+
+fn write_cell(own: Own, next: State, e: Entry) -> Move
+    ensures { λ r. ⌜ Moves own AtWrite (λ b i. writing b i next e) r ⌝ }
+{
+    let j = own.journal;
+    if 8 <= j.size {
+        return Move {
+            word: Word::Stuck,
+            own: own,
+        };
+    }
+    write_to(own, next, e)
+}
+
+// READ from outside: the version found is listed, if there is room.
+fn read_outside(own: Own, around: Around, start: u64, t: Ticket, next: State, c: Cell) -> Move
+    requires { ⌜ (0 < t .0) × (t .0 ≤ 16) × ShowingBelow (around .journals) (around .versions) (t .0 - 1) ⌝ }
+    ensures { λ r. ⌜ Moves own (AtRead around start (t .0) next (c .0)) (λ b i. outside b i (c .0)) r ⌝ }
+{
+    let list = own.list;
+    if 8 <= list.size {
+        return Move {
+            word: Word::Stuck,
+            own: own,
+        };
+    }
+    let journals = around.journals;
+    let versions = around.versions;
+    let found = find_version(journals, versions, start, c, Ticket(t.0 - 1));
+    let source = found.source;
+    let x = Read {
+        cell: c,
+        source: source,
+        value: found.value,
+    };
+    let s = next.given(found.value);
+    list_to(own, s, x)
+}
+
+// READ of a cell: the job's own value, or one from outside.
+fn read_cell(own: Own, around: Around, start: &[u64], t: Ticket, next: State, c: Cell) -> Move
+    requires { ⌜ (0 < t .0) × (t .0 ≤ 16) × (own .journal .size ≤ 8) × (own .list .size ≤ 8) × ShowingBelow (around .journals) (around .versions) (t .0 - 1) × (c .0 < length (now start)) ⌝ }
+    ensures { λ r. ⌜ Moves own (AtCell around (now (start .entry)) (t .0) next (c .0)) (λ b i. reading b i (c .0)) r ⌝ }
+{
+    let j = own.journal;
+    let list = own.list;
+    let held = own_value(j, list, c);
+    let Shown::Value(v) = held else {
+        let at = c.0 as usize;
+        return read_outside(own, around, start[at], t, next, c);
+    };
+    let s = next.given(v);
+    step_to(own, s)
+}
+
+// One instruction of a running job that is not marked, or its end.
+fn step_or_end(job: Job, own: Own, around: Around, start: &[u64], t: Ticket) -> Move
+    requires { ⌜ Ready job own around (now start) (t .0) ⌝ }
+    ensures { λ r. ⌜ Moves own (AtStep job around (now (start .entry)) (t .0)) stepping r ⌝ }
+{
+    let s = own.state;
+    let done = instruct_at(job, s);
+    let act = done.act;
+    let next = done.state;
+    match act {
+        Act::Nothing => step_to(own, next),
+        Act::Read(c) => read_cell(own, around, start, t, next, c),
+        Act::Write(c, v) => write_cell(own, next, Entry { cell: c, value: v }),
+        Act::Stop => {
+            let j = own.journal;
+            let public = publish(j);
+            end_with(own, public)
+        }
+        Act::Abandon => {
+            let public = no_versions();
+            end_with(own, public)
+        }
+        Act::Stuck => Move {
+            word: Word::Stuck,
+            own: own,
+        },
+    }
+}
+
+// Document 01's rules, tried in order, for a job of a block that fits.
+pub(crate) fn take_own(
+    job: Job,
+    own: Own,
+    back: Checkpoint,
+    around: Around,
+    start: &[u64],
+    t: Ticket,
+) -> Move
+    requires { ⌜ Ready job own around (now start) (t .0) ⌝ }
+    ensures { λ r. ⌜ Moves own (AtTurn job around (now (start .entry)) back (t .0)) moving r ⌝ }
+{
+    let status = own.status;
+    if 2 <= status {
+        return Move {
+            word: Word::Idle,
+            own: own,
+        };
+    }
+    let list = own.list;
+    let mark = list.mark;
+    if mark != Reads::UNMARKED {
+        return back_to(own, back);
+    }
+    if status == 0 {
+        return step_or_end(job, own, around, start, t);
+    }
+    let all = around.status;
+    if all_final(all, t.0 - 1) {
+        return settle(own);
+    }
+    Move {
+        word: Word::Wait,
+        own: own,
+    }
+}
+
+fn shows_of(own: Own) -> Shows
+    ensures { λ r. ⌜ r ≡ showsOf own ⌝ }
+{
+    let journal = own.journal;
+    let versions = own.versions;
+    Shows {
+        journal: journal,
+        versions: versions,
+    }
+}
+
+// Whether the higher jobs are to be marked after a word: only back and end may change what is public.
+fn is_marking(word: Word) -> bool
+    ensures { λ r. ⌜ r ≡ marking word ⌝ }
+{
+    match word {
+        Word::Idle => false,
+        Word::Back => true,
+        Word::Step => false,
+        Word::End => true,
+        Word::Final => false,
+        Word::Wait => false,
+        Word::BadTicket => false,
+        Word::Stuck => false,
+    }
+}
+
+// The lists of reads after a job's move: its own stored, and the higher jobs marked.
+pub(crate) fn reads_after(
+    lists: [Reads; 16],
+    count: u8,
+    own: Own,
+    done: Move,
+    t: Ticket,
+) -> [Reads; 16]
+    requires { ⌜ (0 < t .0) × (t .0 ≤ count) × (count ≤ 16) × MayMark lists count own done (t .0) ⌝ }
+    ensures { λ r. ⌜ r ≡ markedBy (done .word) (set lists (t .0 - 1) (done .own .list)) count (showsOf own) (showsOf (done .own)) (t .0) ⌝ }
+{
+    let word = done.word;
+    let after = done.own;
+    let i = (t.0 - 1) as usize;
+    let list = after.list;
+    let mut r = lists;
+    r[i] = list;
+    if !is_marking(word) {
+        return r;
+    }
+    let old = shows_of(own);
+    let new = shows_of(after);
+    mark_above(r, count, old, new, t)
+}
