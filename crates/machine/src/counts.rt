@@ -2,10 +2,13 @@
 ghost use mathlib.Core.Path.{_≡_};
 ghost use Rattle.machine.specs.Machine.{cellOf};
 
+#[repr(C)]
 pub struct Ticket(pub u8);
 
+#[repr(C)]
 pub struct Cell(pub u16);
 
+#[repr(C)]
 pub struct Place(pub u8);
 
 impl Cell {

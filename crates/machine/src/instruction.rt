@@ -5,6 +5,7 @@ ghost use lib.Dec.{leb};
 ghost use lib.ListN.{getD};
 ghost use Rattle.machine.specs.Instruction.{needs, changes, columns, known, fits, leadsOn, jumps, need, after};
 
+#[repr(C)]
 pub struct Instruction {
     pub code: u8,
     pub operand: u64,

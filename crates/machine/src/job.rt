@@ -6,16 +6,19 @@ ghost use Rattle.machine.specs.Machine.{start};
 ghost use Rattle.machine.specs.View.{stateOf};
 
 // The top stands at the height's end.
+#[repr(C)]
 pub struct Stack {
     pub entries: [u64; 16],
     pub height: u8,
 }
 
+#[repr(C)]
 pub struct State {
     pub place: Place,
     pub stack: Stack,
 }
 
+#[repr(C)]
 pub struct Job {
     pub code: [Instruction; 64],
     pub size: u8,

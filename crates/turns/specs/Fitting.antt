@@ -18,8 +18,8 @@ use Rattle.machine.specs.declared.job.Job.{Job}
 use Rattle.machine.specs.declared.job.State.{State}
 use Rattle.turns.specs.Box.{limits, box}
 use Rattle.turns.specs.Block.{noState, noCheckpoint, blockOf}
-use Rattle.turns.specs.View.{Showing, placeAt, place-low, place-past, markOf, noJournal, noVersions, noRead, noReads}
-use Rattle.turns.specs.Sizes.{passes, codeWithin, standsIn, journalWithin, versionWithinAt, versionsWithin, readWithin, risesFrom, readsWithin, markWithin, jobWithin, jobWithinAt, block-is}
+use Rattle.turns.specs.View.{noEntry, Showing, placeAt, place-low, place-past, markOf, noJournal, noVersions, noRead, noReads}
+use Rattle.turns.specs.Sizes.{passes, codeWithin, standsIn, journalWithin, versionWithinAt, versionsWithin, readWithin, risesFrom, readsWithin, markWithin, jobWithin, jobWithinAt, block-is, entryWithin, entryWithinAt}
 use Rattle.turns.specs.declared.block.Journal.{Journal}
 use Rattle.turns.specs.declared.block.Versions.{Versions}
 use Rattle.turns.specs.declared.block.Read.{Read}
@@ -32,6 +32,7 @@ pub record Fit (b : Block) (k : ℕ) : Type 0 where
   pub code : getD (b .jobs) k noJob .size ≤ 64
   pub place : getD (b .states) k noState .place .0 < getD (b .jobs) k noJob .size
   pub journal : getD (b .journals) k noJournal .size ≤ 8
+  pub cells : (i : ℕ) → i < getD (b .journals) k noJournal .size → getD (getD (b .journals) k noJournal .entries) i noEntry .cell .0 < 256
   pub showing : Showing (getD (b .journals) k noJournal) (getD (b .versions) k noVersions)
   pub reads : getD (b .reads) k noReads .size ≤ 8
   pub mark : (getD (b .reads) k noReads .mark ≡ 255) ⊎ (getD (b .reads) k noReads .mark < getD (b .reads) k noReads .size)
@@ -107,6 +108,10 @@ journal-few : (jo : Journal) → journalWithin jo ≡ true → jo .size ≤ 8
 unfolding journalWithin
 journal-few jo e = leb-true _ _ (both (leb (jo .size) FEW) _ e .0)
 
+journal-cells : (jo : Journal) → journalWithin jo ≡ true → (i : ℕ) → i < jo .size → getD (jo .entries) i noEntry .cell .0 < 256
+unfolding journalWithin entryWithin
+journal-cells jo e i l = ltb-true _ _ (passes-at (entryWithinAt jo) 0 (jo .size) (both (leb (jo .size) FEW) _ e .1) i (omega arith) (omega arith))
+
 versions-within : (n : ℕ) (v : Versions) → versionsWithin n v ≡ true → (i : ℕ) → i < v .size → placeAt v i < n
 unfolding versionsWithin
 versions-within n v e i l = ltb-true _ _ (passes-at (versionWithinAt n v) 0 (v .size) e i (omega arith) (omega arith))
@@ -163,6 +168,7 @@ fit b k t =
       code = code-few _ (t .code);
       place = stands _ (getD (b .states) k noState) (t .state);
       journal = journal-few _ (t .journal);
+      cells = journal-cells _ (t .journal);
       showing = showing _ _ (t .journal) (t .versions);
       reads = reads-few _ _ _ _ (t .reads);
       mark = mark-within _ _ (t .mark);

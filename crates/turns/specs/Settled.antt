@@ -1,16 +1,20 @@
 -- Document 01's settled table: 12 first, then 20; else each cell is what the final jobs leave of it, and f is their number.
 use mathlib.Core.Path.{_≡_}
 use mathlib.Core.Bool.{not, cond}
+use mathlib.Core.Option.{Option·getD}
 use mathlib.Core.List.{List}
-use Prim.Native.Nat.{ℕ, zero, suc, _+_}
+use Prim.Native.Nat.{ℕ, zero, suc, _+_, _<_}
 use lib.Dec.{eqb, leb}
 use lib.ListN.{length, getD}
 use Rattle.theory.specs.Engine as E
 use Rattle.machine.specs.Limits.{CELLS}
 use Rattle.turns.specs.Box.{limits, box}
-use Rattle.turns.specs.View.{foundIn}
+use Rattle.turns.specs.View.{noEntry, journalOf, versionsOf, noJournal, noVersions, Showing, foundIn}
 use Rattle.turns.specs.Block.{blockOf}
+use Rattle.turns.specs.SerialRun.{cellsOf}
 use Rattle.turns.specs.declared.block.Block.{Block}
+use Rattle.turns.specs.declared.block.Journal.{Journal}
+use Rattle.turns.specs.declared.block.Versions.{Versions}
 use Rattle.turns.specs.declared.settled.Settling.{Settling}
 use Rattle.turns.specs.declared.settled.Settling.the-variants.{Written, WrongTable, Misfit}
 use Rattle.turns.specs.declared.settled.Settled.{Settled}
@@ -27,6 +31,23 @@ finalsBelow ss (suc k) = finalsBelow ss k + finalOne (getD ss k 0)
 -- the value that a reader of cell c finds that has the jobs at the places below n below it
 unfoldable pub cellFound : Block → ℕ → ℕ → ℕ
 cellFound b n c = foundIn (b .journals) (b .versions) (getD (b .start) c 0) c n .1
+
+-- a journal whose cells are in the table
+pub record InTable (j : Journal) : Type 0 where
+  pub cells : (i : ℕ) → i < j .size → getD (j .entries) i noEntry .cell .0 < CELLS
+
+-- what a job shows of each cell, over a table
+abbrev pub shownOver : Journal → List ℕ → (ℕ → ℕ) → ℕ → ℕ
+shownOver j vs table c = Option·getD (E.valueAt (journalOf j) (E.shownAt (journalOf j) vs c)) (table c)
+
+pub record Showed (j : Journal) (v : Versions) (before after : List ℕ) : Type 0 where
+  pub size : length after ≡ CELLS
+  pub cells : cellsOf after ≡ shownOver j (versionsOf v) (cellsOf before)
+
+-- what the jobs at the places below n show can be read
+pub record Settleable (b : Block) (n : ℕ) : Type 0 where
+  pub showing : (k : ℕ) → k < n → Showing (getD (b .journals) k noJournal) (getD (b .versions) k noVersions)
+  pub inside : (k : ℕ) → k < n → InTable (getD (b .journals) k noJournal)
 
 -- the table is tested for 12, then the sizes for 20
 unfoldable pub unlessUnsettled : {A : Type 0} → Block → List ℕ → A → A → A → A

@@ -5,23 +5,27 @@ use machine::job::Job;
 use machine::job::State;
 
 // A write of a value to a cell.
+#[repr(C)]
 pub struct Entry {
     pub cell: Cell,
     pub value: u64,
 }
 
 // The writes of a job, in order.
+#[repr(C)]
 pub struct Journal {
     pub entries: [Entry; 8],
     pub size: u8,
 }
 
 // The public versions of a job: each is the place of its journal entry.
+#[repr(C)]
 pub struct Versions {
     pub places: [u8; 8],
     pub size: u8,
 }
 
+#[repr(C)]
 pub struct Read {
     pub cell: Cell,
     pub source: Ticket,
@@ -29,6 +33,7 @@ pub struct Read {
 }
 
 // The listed reads of a job, and the earliest marked one.
+#[repr(C)]
 pub struct Reads {
     pub reads: [Read; 8],
     pub size: u8,
@@ -41,6 +46,7 @@ impl Reads {
 }
 
 // The job as it was before a listed read.
+#[repr(C)]
 pub struct Checkpoint {
     pub state: State,
     pub writes: u8,
@@ -49,6 +55,7 @@ pub struct Checkpoint {
 
 // Job k has ticket k + 1. Its checkpoints stand from 8 * k on, one for each listed read.
 // A job's status is 0 while it runs, 1 once it has ended, and 2 once it is final.
+#[repr(C)]
 pub struct Block {
     pub start: [u64; 256],
     pub count: u8,

@@ -178,7 +178,7 @@ fn run_jobs(jobs: [Job; 16], count: u8, table: &mut [u64])
     }
 }
 
-fn copy_table(from: &[u64], to: &mut [u64])
+pub(crate) fn copy_table(from: &[u64], to: &mut [u64])
     requires { ⌜ (length (now from) ≡ CELLS) × (length (now to) ≡ CELLS) ⌝ }
     ensures { λ _. ⌜ now (to .exit) ≡ now (from .entry) ⌝ }
 {

@@ -1,7 +1,10 @@
 // The settled table: what the final jobs leave, read from the versions.
 use crate::block::Block;
+use crate::block::Journal;
+use crate::block::Versions;
+use crate::journal::entry_at;
+use crate::serial::copy_table;
 use crate::sizes::block_fits;
-use crate::versions::find_version;
 use machine::counts::Cell;
 use machine::counts::Ticket;
 ghost use mathlib.Core.Path.{_≡_};
@@ -9,8 +12,8 @@ ghost use Prim.Native.Nat.{_≤_};
 ghost use lib.ListN.{length};
 ghost use Rattle.theory.specs.Lists.{tab};
 ghost use Rattle.machine.specs.Limits.{JOBS, CELLS};
-ghost use Rattle.turns.specs.View.{ShowingBelow};
-ghost use Rattle.turns.specs.Settled.{finalOne, finalsBelow, cellFound, Settles};
+ghost use Rattle.turns.specs.View.{Showing};
+ghost use Rattle.turns.specs.Settled.{finalOne, finalsBelow, cellFound, InTable, Showed, Settleable, Settles};
 
 // Whether the table was written, and else 12 or 20.
 pub enum Settling {
@@ -50,19 +53,32 @@ fn count_finals(status: [u8; 16], count: u8) -> u8
     f
 }
 
-// Each cell as a reader finds it that has the tickets 1 to f below it.
+// A job's public versions over the table, from the last to the first, so that the first of a cell stands.
+fn apply_versions(j: Journal, v: Versions, table: &mut [u64])
+    requires { ⌜ Showing j v × InTable j × (length (now table) ≡ CELLS) ⌝ }
+    ensures { λ _. ⌜ Showed j v (now (table .entry)) (now (table .exit)) ⌝ }
+{
+    let mut k = v.size;
+    while 0 < k {
+        let place = v.places[(k - 1) as usize];
+        let e = entry_at(j, place);
+        let at = e.cell.0 as usize;
+        table[at] = e.value;
+        k = k - 1;
+    }
+}
+
+// The start table, and over it what the jobs of the tickets 1 to f show, in their order: each cell as a reader above them finds it.
 fn settle_cells(b: Block, f: Ticket, table: &mut [u64])
-    requires { ⌜ (f .0 ≤ JOBS) × ShowingBelow (b .journals) (b .versions) (f .0) × (length (now table) ≡ CELLS) ⌝ }
+    requires { ⌜ (f .0 ≤ JOBS) × Settleable b (f .0) × (length (now table) ≡ CELLS) ⌝ }
     ensures { λ _. ⌜ now (table .exit) ≡ tab CELLS (cellFound b (f .0)) ⌝ }
 {
-    let mut k: u16 = 0;
-    while k < Cell::COUNT {
-        let at = k as usize;
-        let start = b.start[at];
-        let journals = b.journals;
-        let versions = b.versions;
-        let found = find_version(journals, versions, start, Cell(k), f);
-        table[at] = found.value;
+    copy_table(&b.start, table);
+    let mut k: u8 = 0;
+    while k < f.0 {
+        let j = b.journals[k as usize];
+        let v = b.versions[k as usize];
+        apply_versions(j, v, table);
         k = k + 1;
     }
 }

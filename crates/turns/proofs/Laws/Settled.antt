@@ -1,27 +1,33 @@
 -- The settled table: the count is the plain engine's, and the table is written cell by cell with what it finds.
-use mathlib.Core.Path.{_≡_, refl, ap, sym, _∙_}
+use mathlib.Core.Path.{_≡_, refl, ap, sym, _∙_, fun-ext}
+use mathlib.Core.Option.{Option, none, some, Option·getD}
 use mathlib.Core.Bool.{Bool, true, false, not, cond}
 use mathlib.Core.List.{List, [], _∷_, _++_, map, map-append}
-use Prim.Native.Nat.{ℕ, zero, suc, _+_, _≤_, _<_}
+use Prim.Native.Nat.{ℕ, zero, suc, _+_, _-_, _≤_, _<_}
 use native.Mathlib.Omega.{arith}
 use native.Mathlib.Numerals.{add-one}
-use lib.Dec.{leb}
-use lib.ListN.{length, getD, take, set}
-use lib.Seq.{take-suc-set, take-all}
-use borrow.Author.Tests.{not-true, not-false, ne-eqb, le-leb, lt-leb}
-use Rattle.theory.specs.Lists.{tab, tab-same}
+use native.Mathlib.Decide.{ℕ-discrete}
+use lib.Dec.{eqb, leb}
+use lib.ListN.{length, getD, drop, set, drop-of-length-le}
+use lib.Seq.{ext-getD, getD-set-same, getD-set-other}
+use borrow.Author.Tests.{not-true, not-false, eq-eqb, ne-eqb, le-leb, lt-leb}
+use Rattle.theory.specs.Lists.{tab, tab-same, length-tab, getD-tab}
 use Rattle.theory.specs.Engine as E
 use Rattle.machine.specs.Machine.{Running}
 use Rattle.turns.specs.Box.{box, limits}
-use Rattle.turns.specs.View.{versionOf, foundIn, ShowingBelow}
+use Rattle.turns.specs.View.{noEntry, entryOf, entriesOf, journalOf, versionsOf, noJournal, noVersions, Showing, versionAt, foundIn}
 use Rattle.turns.specs.Block.{jobOf, blockOf}
 use Rattle.turns.specs.Fitting.{count-fit, block-fit}
 use Rattle.turns.specs.Turn.{jobs, cells}
-use Rattle.turns.specs.Settled.{finalOne, finalsBelow, cellFound, unlessUnsettled, refusalOf, settledAnswer, settledCount, settledTable, Settles}
+use Rattle.turns.specs.Settled.{finalOne, finalsBelow, cellFound, InTable, shownOver, Showed, Settleable, unlessUnsettled, refusalOf, settledAnswer, settledCount, settledTable, Settles}
+use Rattle.turns.specs.SerialRun.{cellsOf}
 use Rattle.turns.specs.declared.block.Block.{Block}
-use Rattle.turns.specs.declared.versions.Version.{Version}
+use Rattle.turns.specs.declared.block.Entry.{Entry}
+use Rattle.turns.specs.declared.block.Journal.{Journal}
+use Rattle.turns.specs.declared.block.Versions.{Versions}
 use Rattle.turns.specs.declared.settled.Settling.the-variants.{Written, WrongTable, Misfit}
 use Rattle.turns.proofs.Laws.Turn.{found-is, status-final}
+use Rattle.turns.proofs.Laws.Versions.{length-versions, cut}
 
 -- ---- the number of final jobs
 pub one-not : (s : ℕ) → s < 2 → 0 ≡ finalOne s
@@ -71,22 +77,87 @@ count-fits f x s k n q l m h = omega (arith, one-few s)
 
 pub ruleset count-laws = (count-fits, count-start, count-on, count-next, count-end)
 
--- ---- the cells, one by one
-module _ (b : Block) (n : ℕ) (table : List ℕ) (k : ℕ) where
-  pub cells-start : take 0 table ≡ tab 0 (cellFound b n)
-  cells-start = refl
+-- ---- what one job shows, over a table
+pub shows-named : (j : Journal) (v : Versions) (k : ℕ) → Showing j v → 0 < k → k ≤ v .size → getD (v .places) (k - 1) 0 < j .size
+shows-named j v k s p l = s .named (k - 1) (omega arith)
 
-  pub cells-on : (v : Version) → k < length table → versionOf v ≡ foundIn (b .journals) (b .versions) (getD (b .start) k 0) k n → take k table ≡ tab k (cellFound b n)
-      → take (k + 1) (set table k (v .value)) ≡ tab (k + 1) (cellFound b n)
-  unfolding cellFound versionOf
-  cells-on v l e q =
-      let w : v .value ≡ cellFound b n k = ap (λ (p : ℕ × ℕ). p .1) e in
-      rw (add-one k, take-suc-set table k (v .value) l, q, w) refl
+pub shows-few : (j : Journal) (v : Versions) → Showing j v → (j .size ≤ 8) × (v .size ≤ 8)
+shows-few j v s = (s .entries, s .places)
 
-  pub cells-end : length table ≡ 256 → 256 ≤ k → k ≤ 256 → take k table ≡ tab k (cellFound b n) → table ≡ tab 256 (cellFound b n)
-  cells-end s l m q = let e : k ≡ 256 = omega arith in sym (take-all k table (omega arith)) ∙ q ∙ ap (λ (i : ℕ). tab i (cellFound b n)) e
+module _ (j : Journal) (v : Versions) (before table : List ℕ) (k : ℕ) where
+  -- the versions from the k-th on are over the table
+  abbrev Shown-from : Type 0
+  Shown-from = cellsOf table ≡ shownOver j (drop k (versionsOf v)) (cellsOf before)
 
-pub ruleset cells-laws = (cells-start, cells-on, cells-end)
+  module _ (s : Showing j v) (inside : InTable j) (size : length table ≡ 256) (h : Shown-from) (p : 0 < k) (l : k ≤ v .size) (e : Entry)
+      (ee : entryOf e ≡ getD (journalOf j) (getD (v .places) (k - 1) 0) E.noEntry) where
+    named : getD (v .places) (k - 1) 0 < j .size
+    named = shows-named j v k s p l
+
+    pub shows-cell : e .cell .0 < length table
+    unfolding entriesOf
+    shows-cell =
+        let w : e .cell .0 ≡ getD (j .entries) (getD (v .places) (k - 1) 0) noEntry .cell .0 = ap (λ (x : E.Entry). x .cell) (ee ∙ getD-tab (j .size) _ (getD (v .places) (k - 1) 0) E.noEntry named) in
+        omega (arith, inside .cells (getD (v .places) (k - 1) 0) named)
+
+    pub shows-on : cellsOf (set table (e .cell .0) (e .value)) ≡ shownOver j (drop (k - 1) (versionsOf v)) (cellsOf before)
+    shows-on = fun-ext (λ c. rw (cut-at, ← ee) (at c (ℕ-discrete c (e .cell .0))))
+      where
+        cut-at : drop (k - 1) (versionsOf v) ≡ getD (v .places) (k - 1) 0 ∷ drop k (versionsOf v)
+        cut-at = let w : suc (k - 1) ≡ k = omega arith in cut v (k - 1) (s .places) (omega arith) ∙ rw w refl
+
+        at : (c : ℕ) → Dec (c ≡ e .cell .0) → getD (set table (e .cell .0) (e .value)) c 0
+            ≡ Option·getD (E.valueAt (journalOf j) (cond (eqb (e .cell .0) c) (some (getD (v .places) (k - 1) 0)) (E.shownAt (journalOf j) (drop k (versionsOf v)) c))) (getD before c 0)
+        at c (yes q) = rw (eq-eqb (e .cell .0) c (sym q), ← ee) (rw q (getD-set-same table (e .cell .0) (e .value) 0 shows-cell))
+        at c (no q) = rw (ne-eqb (e .cell .0) c (λ z. q (sym z))) (getD-set-other table (e .cell .0) c (e .value) 0 q ∙ (λ i. h i c))
+
+  pub shows-end : length table ≡ 256 → k ≤ 0 → Shown-from → Showed j v before table
+  shows-end size l h = record { size = size; cells = go k l h }
+    where
+      go : (k : ℕ) → k ≤ 0 → cellsOf table ≡ shownOver j (drop k (versionsOf v)) (cellsOf before) → cellsOf table ≡ shownOver j (versionsOf v) (cellsOf before)
+      go zero l h = h
+      go (suc k) l h = absurd (omega arith)
+
+pub shows-start : (j : Journal) (v : Versions) (table : List ℕ) → cellsOf table ≡ shownOver j (drop (v .size) (versionsOf v)) (cellsOf table)
+shows-start j v table = fun-ext (λ c. rw (drop-of-length-le (versionsOf v) {i = v .size} (rw (length-versions v) (omega arith))) refl)
+
+pub ruleset shows-laws = (shows-named, shows-few, shows-start, shows-cell, shows-on, shows-end)
+
+-- ---- the jobs, one by one
+-- the table is what a reader above the first k of f jobs finds
+pub record Found-to (b : Block) (f k : ℕ) (table : List ℕ) : Type 0 where
+  pub upto : k ≤ f
+  pub few : f ≤ 16
+  pub can : Settleable b f
+  pub size : length table ≡ 256
+  pub cells : cellsOf table ≡ cellFound b k
+
+pub found-start : (b : Block) (f : ℕ) (table : List ℕ) → f ≤ 16 → Settleable b f → length (b .start) ≡ 256 → table ≡ b .start → Found-to b f 0 table
+unfolding cellFound foundIn E.search
+found-start b f table few can size e = record { upto = omega arith; few = few; can = can; size = rw e size; cells = fun-ext (λ c. rw e refl) }
+
+module _ (b : Block) (f k : ℕ) (table : List ℕ) (g : Found-to b f k table) where
+  pub found-can : k < f → Showing (getD (b .journals) k noJournal) (getD (b .versions) k noVersions) × InTable (getD (b .journals) k noJournal) × (length table ≡ 256)
+  found-can l = (g .can .showing k l, g .can .inside k l, g .size)
+
+  pub found-on : (after : List ℕ) → k < f → Showed (getD (b .journals) k noJournal) (getD (b .versions) k noVersions) table after → Found-to b f (k + 1) after
+  unfolding cellFound foundIn E.search versionAt
+  found-on after l h = record { upto = omega arith; few = g .few; can = g .can; size = h .size; cells = rw (add-one k) (fun-ext at) }
+    where
+      one : (o : Option ℕ) (lower : ℕ × ℕ) → Option·getD o (lower .1) ≡ E.found o k lower .1
+      one (some x) lower = refl
+      one none lower = refl
+
+      at : (c : ℕ) → getD after c 0 ≡ cellFound b (suc k) c
+      at c =
+          ap (λ (t : ℕ → ℕ). t c) (h .cells) ∙ ap (λ (t : ℕ → ℕ). Option·getD (versionAt (b .journals) (b .versions) k c) (t c)) (g .cells)
+          ∙ one (versionAt (b .journals) (b .versions) k c) (foundIn (b .journals) (b .versions) (getD (b .start) c 0) c k)
+
+  pub found-end : f ≤ k → table ≡ tab 256 (cellFound b f)
+  found-end l =
+      let e : k ≡ f = omega (arith, g .upto) in
+      ext-getD 0 table (tab 256 (cellFound b f)) (g .size ∙ sym (length-tab 256 (cellFound b f)))
+      (λ c h. ap (λ (t : ℕ → ℕ). t c) (g .cells) ∙ ap (λ (x : ℕ). cellFound b x c) e ∙ sym (getD-tab 256 (cellFound b f) c 0 (omega (arith, g .size))))
 
 -- ---- the whole
 up-to : {A : Type 0} (g : ℕ → A) (n : ℕ) → map g (E.upTo limits box n) ≡ tab n g
@@ -142,7 +213,10 @@ module _ (b : Block) (fits : Bool) (ef : fits ≡ E.blockFits limits box (blockO
     pub settle-low : f ≤ 16
     settle-low = omega (arith, settle-count, count-low (b .status) (b .count) f e)
 
-    pub settle-showing : ShowingBelow (b .journals) (b .versions) f
-    settle-showing = record { showing = λ k l. block-fit b (sym ef ∙ not-false fits q) k (omega (arith, count-low (b .status) (b .count) f e)) .showing }
+    pub settle-showing : Settleable b f
+    settle-showing = record {
+      showing = λ k l. block-fit b (sym ef ∙ not-false fits q) k (omega (arith, count-low (b .status) (b .count) f e)) .showing;
+      inside = λ k l. record { cells = block-fit b (sym ef ∙ not-false fits q) k (omega (arith, count-low (b .status) (b .count) f e)) .cells };
+    }
 
 pub ruleset settle-laws = (settle-wrong, settle-misfit, settle-written, settle-count, settle-low, settle-showing)

@@ -44,21 +44,21 @@ pub ruleset add-laws = (version-none, version-added)
 pub shown-named : (j : Journal) (v : Versions) (k : ℕ) → Showing j v → k < v .size → getD (v .places) k 0 < j .size
 shown-named j v k s l = s .named k l
 
-module _ (j : Journal) (v : Versions) (c k : ℕ) (R : Option ℕ) where
-  cut : v .size ≤ 8 → k < v .size → drop k (versionsOf v) ≡ getD (v .places) k 0 ∷ drop (suc k) (versionsOf v)
-  unfolding versionsOf
-  cut few l = rw (place-low v k (omega arith)) (drop-tab (v .size) (placeAt v) k l)
+pub cut : (v : Versions) (k : ℕ) → v .size ≤ 8 → k < v .size → drop k (versionsOf v) ≡ getD (v .places) k 0 ∷ drop (suc k) (versionsOf v)
+unfolding versionsOf
+cut v k few l = rw (place-low v k (omega arith)) (drop-tab (v .size) (placeAt v) k l)
 
+module _ (j : Journal) (v : Versions) (c k : ℕ) (R : Option ℕ) where
   module _ (s : Showing j v) (l : k < v .size) (e : Entry) (ee : entryOf e ≡ getD (journalOf j) (getD (v .places) k 0) E.noEntry) where
     is-cell : getD (journalOf j) (getD (v .places) k 0) E.noEntry .cell ≡ e .cell .0
     is-cell = ap (λ (x : E.Entry). x .cell) (sym ee)
 
     pub shown-here : e .cell .0 ≡ c → shownAt (journalOf j) (drop k (versionsOf v)) c ≡ R → placeOf (At (getD (v .places) k 0)) ≡ R
     unfolding placeOf
-    shown-here q r = sym (ap (λ (vs : List ℕ). shownAt (journalOf j) vs c) (cut (s .places) l) ∙ rw (is-cell, eq-eqb (e .cell .0) c q) refl) ∙ r
+    shown-here q r = sym (ap (λ (vs : List ℕ). shownAt (journalOf j) vs c) (cut v k (s .places) l) ∙ rw (is-cell, eq-eqb (e .cell .0) c q) refl) ∙ r
 
     pub shown-on : (e .cell .0 ≡ c → ⊥) → shownAt (journalOf j) (drop k (versionsOf v)) c ≡ R → shownAt (journalOf j) (drop (k + 1) (versionsOf v)) c ≡ R
-    shown-on q r = rw (add-one k) (sym (ap (λ (vs : List ℕ). shownAt (journalOf j) vs c) (cut (s .places) l) ∙ rw (is-cell, ne-eqb (e .cell .0) c q) refl) ∙ r)
+    shown-on q r = rw (add-one k) (sym (ap (λ (vs : List ℕ). shownAt (journalOf j) vs c) (cut v k (s .places) l) ∙ rw (is-cell, ne-eqb (e .cell .0) c q) refl) ∙ r)
 
   pub shown-end : v .size ≤ k → shownAt (journalOf j) (drop k (versionsOf v)) c ≡ R → placeOf Nowhere ≡ R
   unfolding placeOf
@@ -160,7 +160,7 @@ module _ (v : Versions) (n k : ℕ) (R : List ℕ) where
   unfolding keptOne
   withdraw-on w r few l e q =
       rw (add-one k, e, append-assoc)
-      (ap (λ (ps : List ℕ). versionsOf w ++ ps) (sym (ap (withdrawn n) (cut (record { entries = []; size = 0 }) v 0 k none few l) ∙ one-kept (getD (v .places) k 0) (drop (suc k) (versionsOf v)))) ∙ q)
+      (ap (λ (ps : List ℕ). versionsOf w ++ ps) (sym (ap (withdrawn n) (cut v k few l) ∙ one-kept (getD (v .places) k 0) (drop (suc k) (versionsOf v)))) ∙ q)
 
   pub withdraw-end : (w : Versions) → v .size ≤ k → versionsOf w ++ withdrawn n (drop k (versionsOf v)) ≡ R → versionsOf w ≡ R
   withdraw-end w l q = sym (append-nil (versionsOf w)) ∙ ap (λ (ps : List ℕ). versionsOf w ++ withdrawn n ps) (sym (drop-of-length-le (versionsOf v) {i = k} (rw (length-versions v) l))) ∙ q

@@ -1,58 +1,76 @@
--- The first k cells are settled,
--- and the store at k settles one more.
-use mathlib.Core.Path.{_≡_}
-use Prim.Native.Nat.{_≤_, _-_}
-use lib.ListN.{length, take}
-use Rattle.theory.specs.Lists.{tab}
-use Rattle.turns.specs.View.{ShowingBelow}
-use Rattle.turns.specs.Settled.{cellFound}
+-- The table is what a reader above the first k jobs finds,
+-- and what the next job shows goes over it.
+use Prim.Native.Nat.{_-_}
 use borrow.Author.Needs.{needs}
-use Rattle.turns.proofs.Laws.Arrays.{array-laws}
-use Rattle.turns.proofs.Laws.Settled.{cells-laws, cells-on}
+use Rattle.turns.proofs.Laws.Settled.{Found-to, found-start, found-can, found-on, found-end}
 use Rattle.turns.proofs.settled.settle_cells.Statement.{statement}
 use Rattle.turns.proofs.settled.settle_cells.Tie as tie
 
 abbrev Inv-loop : tie.InvT-loop
-Inv-loop f table₀ b k₀ table k = (k ≤ 256) × (f .0 ≤ 16) × ShowingBelow (b .journals) (b .versions) (f .0) × (length table ≡ 256) × (take k table ≡ tab k (cellFound b (f .0)))
+Inv-loop f table₀ b k₀ table k = Found-to b (f .0) k table
 
 abbrev μ-loop : tie.MeasureT-loop
-μ-loop f table₀ b k₀ table k = 256 - k
+μ-loop f table₀ b k₀ table k = f .0 - k
+
+copy-table-requires : tie.Need-copy-table-requires Inv-loop μ-loop
+copy-table-requires c κs =
+    let c₁ = c .before .before .before .before .before in
+    (search (c₁ .good, needs), c₁ .pre .2)
 
 loop-holds : tie.Need-loop-holds Inv-loop μ-loop
-loop-holds c = search (cells-laws, array-laws, needs)
+loop-holds c =
+    let c₁ = c .before .before in
+    let c₂ = c₁ .before .before .before .before .before .before in
+    found-start _ _ _ (c₂ .pre .0) (c₂ .pre .1) (search (c₂ .good, needs)) (c₁ .copy-table .ensures)
 
-cast-at : tie.Need-cast-at Inv-loop μ-loop
-cast-at c = search (cells-laws, array-laws, needs)
+cast-j : tie.Need-cast-j Inv-loop μ-loop
+cast-j c = search (c .before .before .loop .inv .few, c .if1 .taken, needs)
 
-mul-start : tie.Need-mul-start Inv-loop μ-loop
-mul-start c = search (cells-laws, array-laws, needs)
+mul-j : tie.Need-mul-j Inv-loop μ-loop
+mul-j c = search (c .before .before .loop .inv .few, c .if1 .taken, needs)
 
-element-copy-out-start : tie.Need-element-copy-out-start Inv-loop μ-loop
-element-copy-out-start c = search (cells-laws, array-laws, needs)
+element-copy-out-j : tie.Need-element-copy-out-j Inv-loop μ-loop
+element-copy-out-j c = search (c .before .before .loop .inv .few, c .if1 .taken, needs)
 
-find-version-requires : tie.Need-find-version-requires Inv-loop μ-loop
-find-version-requires c κs = search (cells-laws, array-laws, needs)
+cast-v : tie.Need-cast-v Inv-loop μ-loop
+cast-v c = search (c .before .before .before .loop .inv .few, c .before .if1 .taken, needs)
 
-mul-table : tie.Need-mul-table Inv-loop μ-loop
-mul-table c = search (cells-laws, array-laws, needs)
+mul-v : tie.Need-mul-v Inv-loop μ-loop
+mul-v c = search (c .before .before .before .loop .inv .few, c .before .if1 .taken, needs)
 
-slice-write-table : tie.Need-slice-write-table Inv-loop μ-loop
-slice-write-table c = search (cells-laws, array-laws, needs)
+element-copy-out-v : tie.Need-element-copy-out-v Inv-loop μ-loop
+element-copy-out-v c = search (c .before .before .before .loop .inv .few, c .before .if1 .taken, needs)
+
+apply-versions-requires : tie.Need-apply-versions-requires Inv-loop μ-loop
+apply-versions-requires c κs =
+    let c₁ = c .before .before .before in
+    let c₂ = c₁ .before .before in
+    found-can _ _ _ _ (c₂ .loop .inv) (c₁ .if1 .taken)
 
 add-k : tie.Need-add-k Inv-loop μ-loop
-add-k c = search (cells-laws, array-laws, needs)
+add-k c =
+    let c₁ = c .before .before .before .before .before .before in
+    let c₂ = c₁ .before .before in
+    search (c₂ .loop .inv .few, c₁ .if1 .taken, needs)
 
 loop-less : tie.Need-loop-less Inv-loop μ-loop
-loop-less c = search (cells-laws, array-laws, needs)
+loop-less c =
+    let c₁ = c .before .before .before .before .before .before in
+    let c₂ = c₁ .before .before in
+    search (c₂ .loop .inv .few, c₁ .if1 .taken, needs)
 
 loop-again : tie.Need-loop-again Inv-loop μ-loop
-loop-again c = (search needs, search needs, search needs, search (array-laws, needs), search (cells-on, needs))
+loop-again c =
+    let c₁ = c .before .before in
+    let c₂ = c₁ .before .before .before .before in
+    let c₃ = c₂ .before .before in
+    found-on _ _ _ _ (c₃ .loop .inv) _ (c₂ .if1 .taken) (c₁ .apply-versions .ensures)
 
 same-length : tie.Need-same-length Inv-loop μ-loop
-same-length c = search (cells-laws, array-laws, needs)
+same-length c = search needs
 
 returns : tie.Need-returns Inv-loop μ-loop
-returns c = search (cells-laws, array-laws, needs)
+returns c = found-end _ _ _ _ (c .before .before .loop .inv) (c .if1 .left)
 
 pub settle-cells-spec : {M : Type 1} → statement M
 settle-cells-spec =
@@ -60,13 +78,15 @@ settle-cells-spec =
     (tie.spec
     Inv-loop
     μ-loop
+    copy-table-requires
     loop-holds
-    cast-at
-    mul-start
-    element-copy-out-start
-    find-version-requires
-    mul-table
-    slice-write-table
+    cast-j
+    mul-j
+    element-copy-out-j
+    cast-v
+    mul-v
+    element-copy-out-v
+    apply-versions-requires
     add-k
     loop-less
     loop-again

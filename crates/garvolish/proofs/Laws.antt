@@ -1,0 +1,42 @@
+-- An answer by its number: what the by-value answer means is said of the number.
+use mathlib.Core.Path.{_≡_, refl, ap, _∙_}
+use mathlib.Core.List.{List}
+use Prim.Native.Nat.{ℕ}
+use Rattle.machine.specs.View.{number}
+use Rattle.machine.specs.declared.counts.Place.{Place}
+use Rattle.machine.specs.declared.paper.Field.{Field}
+use Rattle.machine.specs.declared.verdict.Fault.{Fault}
+use Rattle.turns.specs.Open.{openingOf, Opens}
+use Rattle.turns.specs.SerialRun.{Serves}
+use Rattle.turns.specs.Turn.{wordOf, Turns}
+use Rattle.turns.specs.declared.block.Block.{Block}
+use Rattle.turns.specs.declared.open.Opened.{Opened}
+use Rattle.turns.specs.declared.open.Opening.{Opening}
+use Rattle.turns.specs.declared.open.Opening.the-variants.{Accepted, WrongTable, Refused}
+use Rattle.turns.specs.declared.turn.Turned.{Turned}
+use Rattle.garvolish.specs.Numbers.{wordNumber, packed, TurnsTo, OpensTo, ServesTo}
+
+-- an opening's number
+module _ (o : Opening) where
+  pub number-accepted : o ≡ Accepted → 0 ≡ packed (openingOf o)
+  unfolding openingOf
+  number-accepted e = rw e refl
+
+  pub number-wrong : o ≡ WrongTable → 12 ≡ packed (openingOf o)
+  unfolding openingOf
+  number-wrong e = rw e refl
+
+  pub number-refused : (f : Fault) (g : Field) (p : Place) (n : ℕ) → o ≡ Refused f g p → n ≡ packed (number f, g .0, p .0) → n ≡ packed (openingOf o)
+  unfolding openingOf
+  number-refused f g p n e q = rw e q
+
+pub ruleset opening-laws = (number-accepted, number-wrong, number-refused)
+
+pub turned-to : (b : Block) (t n : ℕ) (r : Turned) → Turns b t r → n ≡ wordNumber (wordOf (r .word)) → TurnsTo b t n (r .block)
+turned-to b t n r h e = record { number = e ∙ ap wordNumber (h .word); block = h .block; left = h .left }
+
+pub opened-to : (start paper : List ℕ) (n : ℕ) (r : Opened) → Opens start paper r → n ≡ packed (openingOf (r .answer)) → OpensTo start paper n (r .block)
+opened-to start paper n r h e = record { number = e ∙ ap packed (h .answer); block = h .block }
+
+pub served-to : (start output paper after : List ℕ) (n : ℕ) (r : Opening) → Serves start output paper r after → n ≡ packed (openingOf r) → ServesTo start output paper n after
+served-to start output paper after n r h e = record { number = e ∙ ap packed (h .answer); table = h .table }

@@ -1,0 +1,2 @@
+-- The answers as numbers, for callers in C.
+pub mod Numbers

@@ -1,0 +1,58 @@
+// The engine for callers in C: each function works on the caller's own block or table, and answers a number.
+mod number;
+
+use crate::number::number_of_word;
+use crate::number::open_number;
+use crate::number::serial_number;
+use crate::number::settled_number;
+use crate::number::take_number;
+use machine::counts::Ticket;
+use turns::block::Block;
+use turns::turn::turn;
+ghost use Rattle.garvolish.specs.Numbers.{TurnsTo, TakesTo, OpensTo, SettlesTo, ServesTo};
+
+// The block becomes a paper's, every job fresh; or a refusal, and then a block with no jobs and an all-zero table.
+#[no_mangle]
+pub extern "C" fn garvolish_open(block: &mut Block, start: &[u64], paper: &[u8]) -> u32
+    ensures { λ r. ⌜ OpensTo (now (start .entry)) (now (paper .entry)) r (now (block .exit)) ⌝ }
+{
+    let r = open_number(start, paper);
+    *block = r.block;
+    r.number
+}
+
+// One turn of a ticket, in the caller's own block.
+#[no_mangle]
+pub extern "C" fn garvolish_turn(block: &mut Block, ticket: u8) -> u32
+    ensures { λ r. ⌜ TurnsTo (now (block .entry)) ticket r (now (block .exit)) ⌝ }
+{
+    let r = turn(*block, Ticket(ticket));
+    *block = r.block;
+    number_of_word(r.word)
+}
+
+// The turns of a list of tickets, in the caller's own block, and a byte for each; the sizes are tested once.
+#[no_mangle]
+pub extern "C" fn garvolish_take_turns(block: &mut Block, tickets: &[u8], words: &mut [u8]) -> u32
+    ensures { λ r. ⌜ TakesTo (now (block .entry)) (now (tickets .entry)) (now (words .entry)) r (now (block .exit)) (now (words .exit)) ⌝ }
+{
+    let r = take_number(*block, tickets, words);
+    *block = r.block;
+    r.number
+}
+
+// The settled table, written whole to the lent table, and f; or a refusal, and the table untouched.
+#[no_mangle]
+pub extern "C" fn garvolish_settled(block: &Block, table: &mut [u64]) -> u32
+    ensures { λ r. ⌜ SettlesTo (now (block .entry)) (now (table .entry)) r (now (table .exit)) ⌝ }
+{
+    settled_number(*block, table)
+}
+
+// All jobs of a paper run one after another, and the output written whole; or a refusal, and the output untouched.
+#[no_mangle]
+pub extern "C" fn garvolish_run_serially(start: &[u64], output: &mut [u64], paper: &[u8]) -> u32
+    ensures { λ r. ⌜ ServesTo (now (start .entry)) (now (output .entry)) (now (paper .entry)) r (now (output .exit)) ⌝ }
+{
+    serial_number(start, output, paper)
+}

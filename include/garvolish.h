@@ -1,0 +1,183 @@
+/* Garvolish: the proved engine of the storage box, for callers in C.
+ *
+ * Link target/staticlib/libgarvolish.a (rt staticlib garvolish), on x86-64. Every function is proved to do what its
+ * comment says, for all bytes behind its pointers: no block, table, paper or ticket has to be checked before a call. A
+ * pointer must point to what its type says and to as many elements as the length beside it; the areas of one call must not
+ * overlap where one of them is written.
+ */
+#ifndef GARVOLISH_H
+#define GARVOLISH_H
+
+#include <stddef.h>
+#include <stdint.h>
+
+#ifdef __cplusplus
+extern "C" {
+#endif
+
+enum {
+    GARVOLISH_JOBS = 16,
+    GARVOLISH_CELLS = 256,
+    GARVOLISH_INSTRUCTIONS = 64,
+    GARVOLISH_STACK = 16,
+    GARVOLISH_FEW = 8,      /* reads and writes of one job */
+    GARVOLISH_UNMARKED = 255
+};
+
+/* What a turn did. A turn that is refused answers GARVOLISH_TICKET or GARVOLISH_MISFIT instead. */
+enum garvolish_word {
+    GARVOLISH_IDLE = 0,
+    GARVOLISH_BACK = 1,
+    GARVOLISH_STEP = 2,
+    GARVOLISH_END = 3,
+    GARVOLISH_FINAL = 4,
+    GARVOLISH_WAIT = 5
+};
+
+/* The byte that garvolish_take_turns writes for a turn that was refused. */
+enum { GARVOLISH_REFUSED_TURN = 6 };
+
+/* Document 01's refusals, by their numbers. */
+enum garvolish_refusal {
+    GARVOLISH_HEAD = 1,     /* fewer than 3 bytes left for a head, or contents run past the end */
+    GARVOLISH_TAG = 2,      /* tag is not 0x10 */
+    GARVOLISH_MANY_JOBS = 3,/* a seventeenth job */
+    GARVOLISH_LENGTH = 4,   /* length 0, over 576, or not a multiple of 9 */
+    GARVOLISH_CODE = 5,     /* code above 13 */
+    GARVOLISH_OPERAND = 6,  /* operand outside its column */
+    GARVOLISH_LEADS_ON = 7, /* the last instruction would lead on */
+    GARVOLISH_NOT_LED = 8,  /* no earlier place leads here */
+    GARVOLISH_ENTRIES = 9,  /* too few entries, or more than 16 left */
+    GARVOLISH_HEIGHTS = 10, /* two heights meet here */
+    GARVOLISH_TOO_MANY = 11,/* ninth READ or ninth WRITE */
+    GARVOLISH_TABLE = 12,   /* a table that has not 256 cells */
+    GARVOLISH_TICKET = 14,  /* a ticket that is none of the block's */
+    GARVOLISH_BYTES = 15,   /* not as many bytes lent as there are tickets */
+    GARVOLISH_MISFIT = 20   /* a block whose sizes do not fit, or a turn that needs what is not there */
+};
+
+/* ---- the block in work. It may be copied, stored and altered; what is past its sizes is answered by GARVOLISH_MISFIT. */
+
+struct garvolish_instruction {
+    uint8_t code;
+    uint64_t operand;
+};
+
+struct garvolish_job {
+    struct garvolish_instruction code[GARVOLISH_INSTRUCTIONS];
+    uint8_t size;
+};
+
+/* The top stands at the height's end. */
+struct garvolish_stack {
+    uint64_t entries[GARVOLISH_STACK];
+    uint8_t height;
+};
+
+struct garvolish_state {
+    uint8_t place;
+    struct garvolish_stack stack;
+};
+
+struct garvolish_entry {
+    uint16_t cell;
+    uint64_t value;
+};
+
+/* The writes of a job, in order. */
+struct garvolish_journal {
+    struct garvolish_entry entries[GARVOLISH_FEW];
+    uint8_t size;
+};
+
+/* The public versions of a job: each is the place of its journal entry. */
+struct garvolish_versions {
+    uint8_t places[GARVOLISH_FEW];
+    uint8_t size;
+};
+
+struct garvolish_read {
+    uint16_t cell;
+    uint8_t source;
+    uint64_t value;
+};
+
+/* The listed reads of a job, and the earliest marked one, GARVOLISH_UNMARKED for none. */
+struct garvolish_reads {
+    struct garvolish_read reads[GARVOLISH_FEW];
+    uint8_t size;
+    uint8_t mark;
+};
+
+/* The job as it was before a listed read. */
+struct garvolish_checkpoint {
+    struct garvolish_state state;
+    uint8_t writes;
+    uint8_t listed;
+};
+
+/* Job k has ticket k + 1; its checkpoints stand from 8 * k on. A status is 0 while the job runs, 1 once it has ended, and 2
+ * once it is final. */
+struct garvolish_block {
+    uint64_t start[GARVOLISH_CELLS];
+    uint8_t count;
+    struct garvolish_job jobs[GARVOLISH_JOBS];
+    struct garvolish_state states[GARVOLISH_JOBS];
+    uint8_t status[GARVOLISH_JOBS];
+    struct garvolish_journal journals[GARVOLISH_JOBS];
+    struct garvolish_versions versions[GARVOLISH_JOBS];
+    struct garvolish_reads reads[GARVOLISH_JOBS];
+    struct garvolish_checkpoint checkpoints[GARVOLISH_JOBS * GARVOLISH_FEW];
+};
+
+#define GARVOLISH_BLOCK_SIZE 44840
+#define GARVOLISH_BLOCK_ALIGNMENT 8
+
+#if defined(__cplusplus)
+static_assert(sizeof(struct garvolish_block) == GARVOLISH_BLOCK_SIZE, "the block's size");
+static_assert(alignof(struct garvolish_block) == GARVOLISH_BLOCK_ALIGNMENT, "the block's alignment");
+#else
+_Static_assert(sizeof(struct garvolish_block) == GARVOLISH_BLOCK_SIZE, "the block's size");
+_Static_assert(_Alignof(struct garvolish_block) == GARVOLISH_BLOCK_ALIGNMENT, "the block's alignment");
+#endif
+
+/* ---- an answer: a number, with a field and a place or with f in the bytes above */
+
+/* 0 where nothing was refused, else one of enum garvolish_refusal. */
+static inline unsigned garvolish_number(uint32_t answer) { return answer & 255; }
+/* The field of the paper that a refusal names, counted from 1; 0 for none. */
+static inline unsigned garvolish_field(uint32_t answer) { return answer >> 8 & 255; }
+/* The place in the job that a refusal names. */
+static inline unsigned garvolish_place(uint32_t answer) { return answer >> 16 & 255; }
+/* The number of final jobs, in an answer of garvolish_settled. */
+static inline unsigned garvolish_finals(uint32_t answer) { return answer >> 8 & 255; }
+
+/* ---- the functions */
+
+/* Opens a paper on a start table: *block becomes a block in work with every job fresh. Refuses GARVOLISH_TABLE unless cells
+ * is 256, then GARVOLISH_HEAD to GARVOLISH_TOO_MANY with field and place; *block then has no jobs and an all-zero table. */
+uint32_t garvolish_open(struct garvolish_block *block, const uint64_t *start, size_t cells, const uint8_t *paper,
+                        size_t length);
+
+/* Gives a ticket one turn and answers its word. Refuses GARVOLISH_TICKET, then GARVOLISH_MISFIT; *block is then as it was. */
+uint32_t garvolish_turn(struct garvolish_block *block, uint8_t ticket);
+
+/* Gives each ticket its turn, in order, and writes a byte for each: its word, or GARVOLISH_REFUSED_TURN. Refuses
+ * GARVOLISH_BYTES unless bytes equals count; *block and the bytes are then as they were. The sizes are tested once. */
+uint32_t garvolish_take_turns(struct garvolish_block *block, const uint8_t *tickets, size_t count, uint8_t *words,
+                              size_t bytes);
+
+/* Writes the settled table whole and answers f (garvolish_finals). Refuses GARVOLISH_TABLE unless cells is 256, then
+ * GARVOLISH_MISFIT; f is then 0 and the table as it was. */
+uint32_t garvolish_settled(const struct garvolish_block *block, uint64_t *table, size_t cells);
+
+/* Runs all jobs of a paper one after another and writes the output table whole. Refuses as garvolish_open does, with
+ * GARVOLISH_TABLE for either table; the output is then as it was. */
+uint32_t garvolish_run_serially(const uint64_t *start, size_t start_cells, uint64_t *output, size_t output_cells,
+                                const uint8_t *paper, size_t length);
+
+#ifdef __cplusplus
+}
+#endif
+
+#endif
