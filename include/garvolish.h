@@ -3,7 +3,7 @@
  * Link target/staticlib/libgarvolish.a (rt staticlib garvolish), on x86-64. Every function is proved to do what its
  * comment says, for all bytes behind its pointers: no block, table, paper or ticket has to be checked before a call. A
  * pointer must point to what its type says and to as many elements as the length beside it; the areas of one call must not
- * overlap where one of them is written.
+ * overlap where one of them is written. Half a megabyte of stack is enough for any call.
  */
 #ifndef GARVOLISH_H
 #define GARVOLISH_H
@@ -56,7 +56,8 @@ enum garvolish_refusal {
     GARVOLISH_MISFIT = 20   /* a block whose sizes do not fit, or a turn that needs what is not there */
 };
 
-/* ---- the block in work. It may be copied, stored and altered; what is past its sizes is answered by GARVOLISH_MISFIT. */
+/* ---- the block in work. It may be copied, stored and altered; what is past its sizes is answered by GARVOLISH_MISFIT.
+ * Two blocks that stand for the same may differ in padding and in entries past a count: compare them by their parts. */
 
 struct garvolish_instruction {
     uint8_t code;
@@ -143,8 +144,10 @@ _Static_assert(_Alignof(struct garvolish_block) == GARVOLISH_BLOCK_ALIGNMENT, "t
 
 /* ---- an answer: a number, with a field and a place or with f in the bytes above */
 
-/* 0 where nothing was refused, else one of enum garvolish_refusal. */
+/* The refusal in an answer of any function but garvolish_turn: one of enum garvolish_refusal, 0 where nothing was refused. */
 static inline unsigned garvolish_number(uint32_t answer) { return answer & 255; }
+/* Whether an answer of garvolish_turn is a word; else it is GARVOLISH_TICKET or GARVOLISH_MISFIT. */
+static inline int garvolish_is_word(uint32_t answer) { return answer <= GARVOLISH_WAIT; }
 /* The field of the paper that a refusal names, counted from 1; 0 for none. */
 static inline unsigned garvolish_field(uint32_t answer) { return answer >> 8 & 255; }
 /* The place in the job that a refusal names. */

@@ -18,7 +18,7 @@ use Rattle.machine.specs.Passing.{not-sound, tooMany, sized, entered}
 use Rattle.machine.specs.declared.instruction.Instruction.{Instruction}
 use Rattle.machine.specs.declared.verdict.Met.{Met}
 use Rattle.machine.specs.declared.verdict.Met.the-variants.{Nobody, Height, Clash}
-use Rattle.promise.specs.Heights.{Sound, heightOf, passed-sound, length-bring, length-brought}
+use Rattle.promise.specs.Heights.{Sound, placeHeight, passed-sound, length-bring, length-brought}
 use Rattle.promise.specs.Keeps.{count-le, count-here}
 
 -- the instruction i at q leads to t: on, or by its jump
@@ -235,7 +235,7 @@ module _ (longest room few : ℕ) (is : List Instruction) where
   passes-good e = record {
     some = sized longest room few is e .0;
     most = sized longest room few is e .1;
-    height = heightOf longest is;
+    height = placeHeight longest is;
     heights = passed-sound longest room few is e;
     led = λ t z l. led t z l (led-all t t (sized longest room few is e .1) z l);
   }

@@ -40,8 +40,8 @@ heightIn Nobody = 0
 heightIn (Clash h) = 0
 
 -- the height that is brought to a place
-unfoldable pub heightOf : ℕ → List Instruction → ℕ → ℕ
-heightOf longest is p = heightIn (getD (brought longest is p) p Nobody)
+unfoldable pub placeHeight : ℕ → List Instruction → ℕ → ℕ
+placeHeight longest is p = heightIn (getD (brought longest is p) p Nobody)
 
 -- ---- a place that was brought the height h has it, or two heights
 data Holds (h : ℕ) : Met → Type 0 where
@@ -220,8 +220,8 @@ module _ (longest room few : ℕ) (is : List Instruction) (pass : verdictOf long
       go zero l = absurd (omega arith)
       go (suc k) l = refl
 
-  pub passed-sound : Sound (heightOf longest is) room few is
-  unfolding heightOf
+  pub passed-sound : Sound (placeHeight longest is) room few is
+  unfolding placeHeight
   passed-sound = record {
     first = first-height;
     codes = λ p l. form p l .known-code;

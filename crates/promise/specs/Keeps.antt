@@ -20,7 +20,7 @@ use Rattle.machine.specs.Verdict.{sound, at, count, verdictOf, jobVerdict}
 use Rattle.machine.specs.Passing.{sized}
 use Rattle.machine.specs.declared.instruction.Instruction.{Instruction}
 use Rattle.promise.specs.Tables.{stack-length}
-use Rattle.promise.specs.Heights.{Sound, heightOf, passed-sound}
+use Rattle.promise.specs.Heights.{Sound, placeHeight, passed-sound}
 
 -- where control goes: by the jump, on, or nowhere
 data Way (i : Instruction) (p : ℕ) : ℕ → Type 0 where
@@ -187,9 +187,9 @@ module _ (longest room few : ℕ) where
   -- a state of a job that passed
   pub record Ok (j : Running) : Type 0 where
     pub short : length (j .code) ≤ longest
-    pub heights : Sound (heightOf longest (j .code)) room few (j .code)
+    pub heights : Sound (placeHeight longest (j .code)) room few (j .code)
     pub inside : j .state .place < length (j .code)
-    pub high : length (j .state .stack) ≡ heightOf longest (j .code) (j .state .place)
+    pub high : length (j .state .stack) ≡ placeHeight longest (j .code) (j .state .place)
 
   ok-ready : (j : Running) → Ok j → ready room (length (j .code)) (current j) (j .state) ≡ true
   unfolding ready placed suffices
@@ -207,7 +207,7 @@ module _ (longest room few : ℕ) where
       p : ℕ
       p = j .state .place
 
-      K : Sound (heightOf longest (j .code)) room few (j .code)
+      K : Sound (placeHeight longest (j .code)) room few (j .code)
       K = k .heights
 
       go : (t : Bool) → leadsOn (current j) ≡ t → true && (not t || ltb (suc p) (length (j .code))) && true ≡ true
@@ -235,10 +235,10 @@ module _ (longest room few : ℕ) where
       p : ℕ
       p = j .state .place
 
-      K : Sound (heightOf longest (j .code)) room few (j .code)
+      K : Sound (placeHeight longest (j .code)) room few (j .code)
       K = k .heights
 
-      long : length (stackAfter (current j) v (j .state .stack)) ≡ after (current j) (heightOf longest (j .code) p)
+      long : length (stackAfter (current j) v (j .state .stack)) ≡ after (current j) (placeHeight longest (j .code) p)
       long =
           stack-length (current j) v (j .state .stack) (K .codes p (k .inside)) (rw (k .high) (K .enough p (k .inside)))
           ∙ ap (after (current j)) (k .high)
@@ -324,7 +324,7 @@ module _ (longest room few : ℕ) where
 
   -- the height of the stack is a function of the place, whatever the reads were given
   pub height-by-place : (is : List Instruction) → verdictOf longest room few is ≡ sound → {n r w : ℕ} {j : Running} → Run (machine longest room) (starting is) n r w j
-      → length (j .state .stack) ≡ heightOf longest is (j .state .place)
+      → length (j .state .stack) ≡ placeHeight longest is (j .state .place)
   unfolding checked
   height-by-place is e {j = j} run =
       rw (← same-code run) (run-keeps (machine longest room) CELLS (promise longest room) checked (passes is e .ok) run .ok .high)

@@ -1,0 +1,43 @@
+//! The proved engine of the storage box, from Rust.
+//!
+//! A [`Block`] is opened from a start table of 256 cells and the bytes of a paper. Its tickets get
+//! their turns in any order, and its settled table is the serial run of its final jobs. Whatever is
+//! handed in, the answer is a value or a [`Refusal`] with document 01's number; nothing panics.
+//!
+//! ```
+//! use garvolish::{Block, Refusal, Word};
+//!
+//! # #[cfg(target_arch = "x86_64")]
+//! # fn main() -> Result<(), Refusal> {
+//! // One job of one instruction, STOP.
+//! let paper = [0x10, 9, 0, 0, 0, 0, 0, 0, 0, 0, 0, 0];
+//! let mut block = Block::open(&[3; 256], &paper)?;
+//! assert_eq!(block.turn(1), Ok(Word::End));
+//! assert_eq!(block.turn(1), Ok(Word::Final));
+//! assert_eq!(block.turn(2).map_err(|refusal| refusal.number), Err(14));
+//!
+//! let mut table = [0; 256];
+//! let f = block.settled(&mut table)?;
+//! assert_eq!((f, table), (1, [3; 256]));
+//! # Ok(())
+//! # }
+//! # #[cfg(not(target_arch = "x86_64"))]
+//! # fn main() {}
+//! ```
+//!
+//! Half a megabyte of stack is enough for any call. The library links on x86-64 only; elsewhere
+//! this package can be checked and not linked.
+
+mod block;
+mod layout;
+mod raw;
+mod refusal;
+mod word;
+
+#[cfg(all(test, target_arch = "x86_64"))]
+mod tests;
+
+pub use block::{run_serially, Block};
+pub use layout::CELLS;
+pub use refusal::Refusal;
+pub use word::{Word, REFUSED_TURN};
