@@ -9,6 +9,10 @@ pub mod Solo
 pub mod Alone
 pub mod Accepted
 pub mod Serial
+pub mod Words
+pub mod Reading
+pub mod Instruct
+pub mod Rules
 pub mod Turn
 pub mod Placed
 pub mod Take

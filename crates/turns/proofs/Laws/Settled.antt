@@ -26,7 +26,8 @@ use Rattle.turns.specs.declared.block.Entry.{Entry}
 use Rattle.turns.specs.declared.block.Journal.{Journal}
 use Rattle.turns.specs.declared.block.Versions.{Versions}
 use Rattle.turns.specs.declared.settled.Settling.the-variants.{Written, WrongTable, Misfit}
-use Rattle.turns.proofs.Laws.Turn.{found-is, status-final}
+use Rattle.turns.proofs.Laws.Reading.{found-is}
+use Rattle.turns.proofs.Laws.Rules.{status-final}
 use Rattle.turns.proofs.Laws.Versions.{length-versions, cut}
 
 -- ---- the number of final jobs

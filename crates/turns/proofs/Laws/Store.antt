@@ -28,7 +28,9 @@ use Rattle.turns.specs.declared.own.Own.{Own}
 use Rattle.turns.specs.declared.own.Around.{Around}
 use Rattle.turns.specs.declared.own.Move.{Move}
 use Rattle.turns.specs.declared.turn.Word.{Word}
-use Rattle.turns.proofs.Laws.Turn.{inside-of, below-showing, whole-fit, turn-taken}
+use Rattle.turns.proofs.Laws.Words.{inside-of}
+use Rattle.turns.proofs.Laws.Reading.{below-showing}
+use Rattle.turns.proofs.Laws.Turn.{whole-fit, turn-taken}
 
 -- ---- where a checkpoint stands
 module _ (i n : ℕ) where

@@ -39,7 +39,10 @@ use Rattle.turns.specs.declared.own.Own.{Own}
 use Rattle.turns.specs.declared.own.Around.{Around}
 use Rattle.turns.specs.declared.own.Move.{Move}
 use Rattle.turns.proofs.Laws.Moves.{back-shown}
-use Rattle.turns.proofs.Laws.Turn as T
+use Rattle.turns.proofs.Laws.Words.{inside-of}
+use Rattle.turns.proofs.Laws.Reading.{outside-full, outside-some, read-else, read-held, write-full, write-some}
+use Rattle.turns.proofs.Laws.Instruct.{abandon-showing, step-abandon, step-nothing, step-read, step-reading, step-stop, step-stuck, step-write, stop-showing}
+use Rattle.turns.proofs.Laws.Rules.{back-held, move-back, move-final, move-idle, move-marked, move-step, move-wait, return-is}
 use Rattle.turns.proofs.Laws.Placed as P
 
 -- a move that does not mark
@@ -61,7 +64,7 @@ module _ (o : Own) (next : State) (e : Entry) where
   pub own-write-full : 8 ≤ o .journal .size → Moves o AtWrite (λ b i. writing b i next e) (still Stuck o)
   own-write-full l = record {
     on = λ b t at q. subst (λ (x : Own). 8 ≤ x .journal .size → Done b t (writing b (t - 1) next e) (still Stuck x)) (sym (at .own))
-        (λ m. still-done b t _ Stuck (λ ls. refl) refl (T.write-full b (t - 1) next e m)) l;
+        (λ m. still-done b t _ Stuck (λ ls. refl) refl (write-full b (t - 1) next e m)) l;
   }
 
   pub own-write : (m : Move) → o .journal .size < 8 → Wrote o next e m → Moves o AtWrite (λ b i. writing b i next e) m
@@ -70,7 +73,7 @@ module _ (o : Own) (next : State) (e : Entry) where
         (subst (λ (x : Own). x .journal .size < 8 → journalOf (m .own .journal) ≡ journalOf (x .journal) ++ (entryOf e ∷ []) → Done b t (writing b (t - 1) next e) (wrote x next (m .own .journal)))
         (sym (at .own))
         (λ k j. quiet-done b t _ (wrote (ownOf b (t - 1)) next (m .own .journal)) refl
-        (T.write-some b (t - 1) next e _ (T.inside-of (b .count) t (at .some) (at .inside)) k (P.becomes-write b t (at .some) (at .inside) (at .whole .sized) (at .long) next e (m .own .journal) j)))
+        (write-some b (t - 1) next e _ (inside-of (b .count) t (at .some) (at .inside)) k (P.becomes-write b t (at .some) (at .inside) (at .whole .sized) (at .long) next e (m .own .journal) j)))
         l (w .journal));
   }
 
@@ -81,7 +84,7 @@ module _ (o : Own) (around : Around) (start t : ℕ) (next : State) (c : Cell) w
   pub own-outside-full : 8 ≤ o .list .size → Moves o (AtRead around start t next (c .0)) (λ b i. outside b i (c .0)) (still Stuck o)
   own-outside-full l = record {
     on = λ b k at q. subst (λ (x : Own). 8 ≤ x .list .size → Done b k (outside b (k - 1) (c .0)) (still Stuck x)) (sym (at .own))
-        (λ m. still-done b k _ Stuck (λ ls. refl) refl (T.outside-full b (k - 1) (c .0) m)) l;
+        (λ m. still-done b k _ Stuck (λ ls. refl) refl (outside-full b (k - 1) (c .0) m)) l;
   }
 
   pub own-outside : (f : Version) (s : State) (m : Move) → o .list .size < 8 → versionOf f ≡ foundIn (around .journals) (around .versions) start (c .0) (t - 1)
@@ -98,7 +101,7 @@ module _ (o : Own) (around : Around) (start t : ℕ) (next : State) (c : Cell) w
           → Done b k (outside b (k - 1) (c .0)) (listed x s (m .own .list) (record { state = x .state; writes = x .journal .size; listed = x .list .size })))
           (sym (at .own))
           (λ h a. quiet-done b k _ _ refl
-          (T.outside-some b (k - 1) c next s f _ (T.inside-of (b .count) k (at .some) (at .inside)) h found (q .reading) es
+          (outside-some b (k - 1) c next s f _ (inside-of (b .count) k (at .some) (at .inside)) h found (q .reading) es
           (P.becomes-list b k (at .some) (at .inside) (at .whole .sized) (at .long) s _ (m .own .list) h a)))
           l (w .adds)
 
@@ -118,7 +121,7 @@ module _ (o : Own) (around : Around) (cells : List ℕ) (t : ℕ) (next : State)
     on = λ b k at q. subst
         (λ (y : Own). valueOf x ≡ orElse (lastValue (journalOf (y .journal)) (c .0)) (listedIn (y .list) (c .0)) → Done b k (reading b (k - 1) (c .0)) (stepped y s)) (sym (at .own))
         (λ h. quiet-done b k _ _ refl
-        (T.read-held b (k - 1) (c .0) x v next s _ (T.inside-of (b .count) k (at .some) (at .inside)) h e (q .reading) es (P.becomes-step b k (at .some) (at .inside) (at .whole .sized) (at .long) s)))
+        (read-held b (k - 1) (c .0) x v next s _ (inside-of (b .count) k (at .some) (at .inside)) h e (q .reading) es (P.becomes-step b k (at .some) (at .inside) (at .whole .sized) (at .long) s)))
         ex;
   })
 
@@ -128,7 +131,7 @@ module _ (o : Own) (around : Around) (cells : List ℕ) (t : ℕ) (next : State)
     on = λ b k at q.
         let d = h .on b k at (record { ticket = q .ticket; around = q .around; start = rw (q .start) refl; reading = q .reading }) in
         let held : valueOf x ≡ orElse (lastValue (journalOf (getD (b .journals) (k - 1) noJournal)) (c .0)) (listedIn (getD (b .reads) (k - 1) noReads) (c .0)) = rw (at .own) at ex in
-        record { did = T.read-else b (k - 1) (c .0) x _ held e (d .did); shown = d .shown; few = d .few };
+        record { did = read-else b (k - 1) (c .0) x _ held e (d .did); shown = d .shown; few = d .few };
   }
 
 pub ruleset own-read-laws = (own-held, own-else)
@@ -142,26 +145,26 @@ module _ (job : Job) (o : Own) (around : Around) (cells : List ℕ) (t : ℕ) (d
   own-nothing m e w = subst (λ (y : Move). Moves o (AtStep job around cells t) stepping y) (sym w) (record {
     on = λ b k at q. subst (λ (y : Own). Done b k (stepping b (k - 1)) (stepped y (done .state))) (sym (at .own))
         (quiet-done b k _ _ refl
-        (T.step-nothing b (k - 1) done (steps-at b k at q) _ e (T.inside-of (b .count) k (at .some) (at .inside)) (P.becomes-step b k (at .some) (at .inside) (at .whole .sized) (at .long) (done .state))));
+        (step-nothing b (k - 1) done (steps-at b k at q) _ e (inside-of (b .count) k (at .some) (at .inside)) (P.becomes-step b k (at .some) (at .inside) (at .whole .sized) (at .long) (done .state))));
   })
 
   pub own-reads : (c : Cell) (m : Move) → done .act ≡ ReadAct c → Moves o (AtCell around cells t (done .state) (c .0)) (λ b i. reading b i (c .0)) m → Moves o (AtStep job around cells t) stepping m
   own-reads c m e g = record {
     on = λ b k at q.
-        let d = g .on b k at (record { ticket = q .ticket; around = q .around; start = q .start; reading = T.step-reading b (k - 1) done (steps-at b k at q) c e }) in
-        record { did = T.step-read b (k - 1) done (steps-at b k at q) c _ e (d .did); shown = d .shown; few = d .few };
+        let d = g .on b k at (record { ticket = q .ticket; around = q .around; start = q .start; reading = step-reading b (k - 1) done (steps-at b k at q) c e }) in
+        record { did = step-read b (k - 1) done (steps-at b k at q) c _ e (d .did); shown = d .shown; few = d .few };
   }
 
   pub own-writes : (c : Cell) (v : ℕ) (m : Move) → done .act ≡ WriteAct c v → Moves o AtWrite (λ b i. writing b i (done .state) (record { cell = c; value = v })) m
       → Moves o (AtStep job around cells t) stepping m
   own-writes c v m e g = record {
-    on = λ b k at q. let d = g .on b k at (record {}) in record { did = T.step-write b (k - 1) done (steps-at b k at q) c v _ e (d .did); shown = d .shown; few = d .few };
+    on = λ b k at q. let d = g .on b k at (record {}) in record { did = step-write b (k - 1) done (steps-at b k at q) c v _ e (d .did); shown = d .shown; few = d .few };
   }
 
   pub own-stuck : done .act ≡ StuckAct → Moves o (AtStep job around cells t) stepping (still Stuck o)
   own-stuck e = record {
     on = λ b k at q. subst (λ (y : Own). Done b k (stepping b (k - 1)) (still Stuck y)) (sym (at .own))
-        (still-done b k _ Stuck (λ ls. refl) refl (T.step-stuck b (k - 1) done (steps-at b k at q) e));
+        (still-done b k _ Stuck (λ ls. refl) refl (step-stuck b (k - 1) done (steps-at b k at q) e));
   }
 
   -- the job of the block ends with these versions public
@@ -169,21 +172,21 @@ module _ (job : Job) (o : Own) (around : Around) (cells : List ℕ) (t : ℕ) (d
       → Did b (k - 1) (stepping b (k - 1)) (turnedBy b k (ended (ownOf b (k - 1)) new)) → Done b k (stepping b (k - 1)) (ended o new)
   ends new b k at s d =
       subst (λ (y : Own). Done b k (stepping b (k - 1)) (ended y new)) (sym (at .own))
-      (record { did = d; shown = λ e. s; few = λ e. at .whole .sized .lists .few (k - 1) (T.inside-of (b .count) k (at .some) (at .inside)) })
+      (record { did = d; shown = λ e. s; few = λ e. at .whole .sized .lists .few (k - 1) (inside-of (b .count) k (at .some) (at .inside)) })
 
   pub own-stop : (new : Versions) (m : Move) → done .act ≡ StopAct → versionsOf new ≡ published (journalOf (o .journal)) → m ≡ ended o new → Moves o (AtStep job around cells t) stepping m
   own-stop new m e v w = subst (λ (y : Move). Moves o (AtStep job around cells t) stepping y) (sym w) (record {
     on = λ b k at q.
         let u : versionsOf new ≡ published (journalOf (getD (b .journals) (k - 1) noJournal)) = rw (at .own) at v in
-        ends new b k at (T.stop-showing b k new (at .whole) (at .some) (at .inside) u)
-        (T.step-stop b (k - 1) done (steps-at b k at q) new _ e (T.inside-of (b .count) k (at .some) (at .inside)) u (P.becomes-end b k (at .some) (at .inside) (at .whole .sized) (at .long) new));
+        ends new b k at (stop-showing b k new (at .whole) (at .some) (at .inside) u)
+        (step-stop b (k - 1) done (steps-at b k at q) new _ e (inside-of (b .count) k (at .some) (at .inside)) u (P.becomes-end b k (at .some) (at .inside) (at .whole .sized) (at .long) new));
   })
 
   pub own-abandon : (new : Versions) (m : Move) → done .act ≡ AbandonAct → versionsOf new ≡ [] → m ≡ ended o new → Moves o (AtStep job around cells t) stepping m
   own-abandon new m e v w = subst (λ (y : Move). Moves o (AtStep job around cells t) stepping y) (sym w) (record {
     on = λ b k at q.
-        ends new b k at (T.abandon-showing b k new (at .whole) (at .some) (at .inside) v)
-        (T.step-abandon b (k - 1) done (steps-at b k at q) new _ e (T.inside-of (b .count) k (at .some) (at .inside)) v (P.becomes-end b k (at .some) (at .inside) (at .whole .sized) (at .long) new));
+        ends new b k at (abandon-showing b k new (at .whole) (at .some) (at .inside) v)
+        (step-abandon b (k - 1) done (steps-at b k at q) new _ e (inside-of (b .count) k (at .some) (at .inside)) v (P.becomes-end b k (at .some) (at .inside) (at .whole .sized) (at .long) new));
   })
 
   pub own-cell : (c : Cell) → Ready job o around cells t → done .act ≡ ReadAct c → c .0 < length cells
@@ -204,14 +207,14 @@ module _ (job : Job) (o : Own) (around : Around) (cells : List ℕ) (c : Checkpo
   pub own-idle : 2 ≤ o .status → Moves o (AtTurn job around cells c t) moving (still Idle o)
   own-idle l = record {
     on = λ b k at q. subst (λ (y : Own). 2 ≤ y .status → Done b k (moving b (k - 1)) (still Idle y)) (sym (at .own))
-        (λ m. still-done b k _ Idle (λ ls. refl) refl (T.move-idle b (k - 1) m)) l;
+        (λ m. still-done b k _ Idle (λ ls. refl) refl (move-idle b (k - 1) m)) l;
   }
 
   pub own-on : (m : Move) → o .list .mark ≡ 255 → o .status ≡ 0 → Moves o (AtStep job around cells t) stepping m → Moves o (AtTurn job around cells c t) moving m
   own-on m em es g = record {
     on = λ b k at q.
         let d = g .on b k at (q .step) in
-        record { did = T.move-step b (k - 1) _ (rw (at .own) at em) (rw (at .own) at es) (d .did); shown = d .shown; few = d .few };
+        record { did = move-step b (k - 1) _ (rw (at .own) at em) (rw (at .own) at es) (d .did); shown = d .shown; few = d .few };
   }
 
   module _ (low : o .status < 2) (some : o .status ≡ 0 → ⊥) (em : o .list .mark ≡ 255) (x : Bool) (ex : x ≡ finalBelow (around .status) (t - 1)) where
@@ -221,17 +224,17 @@ module _ (job : Job) (o : Own) (around : Around) (cells : List ℕ) (c : Checkpo
     pub own-final : (r : Move) → x ≡ true → r ≡ settledOwn o → Moves o (AtTurn job around cells c t) moving r
     own-final r e w = subst (λ (y : Move). Moves o (AtTurn job around cells c t) moving y) (sym w) (record {
       on = λ b k at q.
-          let inside = T.inside-of (b .count) k (at .some) (at .inside) in
+          let inside = inside-of (b .count) k (at .some) (at .inside) in
           subst (λ (y : Own). y .status < 2 → (y .status ≡ 0 → ⊥) → y .list .mark ≡ 255 → Done b k (moving b (k - 1)) (settledOwn y)) (sym (at .own))
-          (λ l n m. quiet-done b k _ _ refl (T.move-final b (k - 1) _ inside l n m x (seen b k (q .step)) e (P.becomes-final b k (at .some) (at .inside) (at .whole .sized) (at .long)))) low some em;
+          (λ l n m. quiet-done b k _ _ refl (move-final b (k - 1) _ inside l n m x (seen b k (q .step)) e (P.becomes-final b k (at .some) (at .inside) (at .whole .sized) (at .long)))) low some em;
     })
 
     pub own-wait : x ≡ false → Moves o (AtTurn job around cells c t) moving (still Wait o)
     own-wait e = record {
       on = λ b k at q.
-          let inside = T.inside-of (b .count) k (at .some) (at .inside) in
+          let inside = inside-of (b .count) k (at .some) (at .inside) in
           subst (λ (y : Own). y .status < 2 → (y .status ≡ 0 → ⊥) → y .list .mark ≡ 255 → Done b k (moving b (k - 1)) (still Wait y)) (sym (at .own))
-          (λ l n m. still-done b k _ Wait (λ ls. refl) refl (T.move-wait b (k - 1) inside l n m x (seen b k (q .step)) e)) low some em;
+          (λ l n m. still-done b k _ Wait (λ ls. refl) refl (move-wait b (k - 1) inside l n m x (seen b k (q .step)) e)) low some em;
     }
 
   pub own-back : (m : Move) → o .status < 2 → (o .list .mark ≡ 255 → ⊥) → Goes o c m → Moves o (AtTurn job around cells c t) moving m
@@ -254,13 +257,13 @@ module _ (job : Job) (o : Own) (around : Around) (cells : List ℕ) (c : Checkpo
               (wentBack (ownOf b (k - 1)) (c .state) (record { entries = getD (b .journals) (k - 1) noJournal .entries; size = c .writes }) v
               (record { reads = getD (b .reads) (k - 1) noReads .reads; size = c .listed; mark = 255 }))
           go b k at q low some w =
-              let inside = T.inside-of (b .count) k (at .some) (at .inside) in
-              let marked = T.move-marked b k (at .whole) (at .some) (at .inside) some in
+              let inside = inside-of (b .count) k (at .some) (at .inside) in
+              let marked = move-marked b k (at .whole) (at .some) (at .inside) some in
               let same : c ≡ getD (b .checkpoints) (8 * (k - 1) + getD (b .reads) (k - 1) noReads .mark) noCheckpoint = rw (lt-leb 8 (getD (b .reads) (k - 1) noReads .mark) (marked .low)) at (q .back) in
-              let held : Held b (k - 1) c = rw same (T.back-held b k (at .whole) (at .some) (at .inside) marked) in
+              let held : Held b (k - 1) c = rw same (back-held b k (at .whole) (at .some) (at .inside) marked) in
               record {
-                did = T.move-back b (k - 1) _ low some
-                    (T.return-is b (k - 1) _ inside marked (rw (← same) (P.becomes-back b k (at .some) (at .inside) (at .whole .sized) (at .long) c v held w)));
+                did = move-back b (k - 1) _ low some
+                    (return-is b (k - 1) _ inside marked (rw (← same) (P.becomes-back b k (at .some) (at .inside) (at .whole .sized) (at .long) c v held w)));
                 shown = λ e. back-shown b k _ v c (at .whole .sized) held (at .some) (at .inside) refl w;
                 few = λ e. omega (arith, held .listed, at .whole .sized .lists .few (k - 1) inside);
               }
