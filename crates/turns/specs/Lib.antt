@@ -8,6 +8,7 @@ pub mod Moves
 pub mod Turn
 pub mod Own
 pub mod Many
+pub mod Going
 pub mod Open
 pub mod SerialRun
 pub mod Alone

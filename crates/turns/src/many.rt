@@ -27,7 +27,7 @@ pub struct Taken {
 }
 
 // 0 to 5 in the order of the rules, 6 for a turn that was refused.
-fn byte_of(word: Word) -> u8
+pub fn byte_of(word: Word) -> u8
     ensures { λ r. ⌜ r ≡ byteOf (wordOf word) ⌝ }
 {
     match word {

@@ -7,13 +7,13 @@ use borrow.Author.Needs.{needs}
 use Rattle.turns.specs.Own.{Long}
 use Rattle.turns.proofs.Laws.Arrays.{array-laws}
 use Rattle.turns.proofs.Laws.Store.{not-refused, few-tickets, ready, may-mark, stored-turn, stored-long}
-use Rattle.turns.proofs.Laws.Many.{Going, going-start, going-refused, going-taken, taken-all, wrong-length}
+use Rattle.turns.proofs.Laws.Many.{Looping, loop-start, loop-refused, loop-taken, taken-all, wrong-length}
 use Rattle.turns.proofs.many.take_turns.Statement.{statement}
 use Rattle.turns.proofs.many.take_turns.Tie as tie
 use Rattle.turns.proofs.many.take_turns.Reads as reads
 
 abbrev Inv-loop : tie.InvT-loop
-Inv-loop tickets words₀ b₀ fits k₀ words b k = Going b₀ tickets fits b k words
+Inv-loop tickets words₀ b₀ fits k₀ words b k = Looping b₀ tickets fits b k words
 
 abbrev μ-loop : tie.MeasureT-loop
 μ-loop tickets words₀ b₀ fits k₀ words b k = length tickets - k
@@ -36,7 +36,7 @@ loop-holds c =
       reads = search (array-laws, g, needs);
       checkpoints = search (array-laws, g, needs);
     } in
-    going-start _ _ _ _ long (c .block-fits .ensures) (search (c .before .if1 .left, needs))
+    loop-start _ _ _ _ long (c .block-fits .ensures) (search (c .before .if1 .left, needs))
 
 add-k : tie.Need-add-k Inv-loop μ-loop
 add-k c =
@@ -52,7 +52,7 @@ is-refused-requires c κs = search needs
 slice-write-words : tie.Need-slice-write-words Inv-loop μ-loop
 slice-write-words c =
     let c₁ = c .before .before .before in
-    search (c₁ .before .loop .inv .room, c₁ .loop-test .taken, needs)
+    search (c₁ .before .loop .inv .going .room, c₁ .loop-test .taken, needs)
 
 loop-less : tie.Need-loop-less Inv-loop μ-loop
 loop-less c = search (c .before .before .before .loop-test .taken, needs)
@@ -60,7 +60,7 @@ loop-less c = search (c .before .before .before .loop-test .taken, needs)
 loop-again : tie.Need-loop-again Inv-loop μ-loop
 loop-again c =
     let c₁ = c .before .before .before in
-    going-refused _ _ _ _ _ _ (c₁ .before .loop .inv) (c₁ .loop-test .taken) _ (c .before .is-refused .ensures) (c .if2 .taken)
+    loop-refused _ _ _ _ _ _ (c₁ .before .loop .inv) (c₁ .loop-test .taken) _ (c .before .is-refused .ensures) (c .if2 .taken)
 
 place-of-requires : tie.Need-place-of-requires Inv-loop μ-loop
 place-of-requires c κs =
@@ -151,7 +151,7 @@ byte-of-requires c κs = search needs
 slice-write-words-2 : tie.Need-slice-write-words-2 Inv-loop μ-loop
 slice-write-words-2 c =
     let c₁ = c .before .before .before .before .before .before .before .before .before .before .before .before .before .before .before .before .before .before .before .before .before .before .before .before .before .before .before .before .before in
-    search (c₁ .before .loop .inv .room, c₁ .loop-test .taken, needs)
+    search (c₁ .before .loop .inv .going .room, c₁ .loop-test .taken, needs)
 
 mul-state : tie.Need-mul-state Inv-loop μ-loop
 mul-state c = search (c .before .before .before .before .before .before .before .before .before .before .before .before .before .before .before .before .before .before .before .before .before .before .before .before .before .place-of .ensures .1, needs)
@@ -219,7 +219,7 @@ loop-again-2 c =
     (c₃ .around-of .ensures) _ (c₂ .take-own .ensures) _ (c .reads-after .ensures) in
     let long = stored-long _ t (free .0) fit (g .long) _ _ _ (c₆ .place-of .ensures .0) (c₅ .before .slot-of .ensures .0) (c₅ .slot-of2 .ensures .0) _ _ (c₄ .own-of .ensures)
     (c₃ .around-of .ensures) _ (c₂ .take-own .ensures) _ (c .reads-after .ensures) in
-    going-taken _ _ _ _ _ _ g (c₈ .loop-test .taken) _ _ (free .1) turned long (c₁ .byte-of .ensures)
+    loop-taken _ _ _ _ _ _ g (c₈ .loop-test .taken) _ _ (free .1) turned long (c₁ .byte-of .ensures)
 
 same-length : tie.Need-same-length Inv-loop μ-loop
 same-length c = search needs

@@ -1,0 +1,34 @@
+-- The list goes on in the block that each turn gives back, so at its end every byte is written.
+use mathlib.Core.Path.{_≡_, refl, ap, _∙_}
+use mathlib.Core.List.{List}
+use Prim.Native.Nat.{ℕ, _+_, _≤_, _<_}
+use lib.ListN.{length, getD, set}
+use borrow.Author.Tests.{eq-eqb, ne-eqb}
+use Rattle.turns.specs.Block.{blockOf}
+use Rattle.turns.specs.Going.{Going, going-start, going-on, all-written}
+use Rattle.turns.specs.Many.{byteOf, ifLong}
+use Rattle.turns.specs.Open.{openBlock, Opens}
+use Rattle.turns.specs.Turn.{wordOf, Turns}
+use Rattle.turns.specs.declared.block.Block.{Block}
+use Rattle.turns.specs.declared.open.Opened.{Opened}
+use Rattle.turns.specs.declared.turn.Turned.{Turned}
+use Rattle.by_value.specs.Hands.{HandsOver}
+
+module _ (start paper ts : List ℕ) where
+  pub hand-start : (r : Opened) (written : List ℕ) → Opens start paper r → length written ≡ length ts → Going (openBlock start paper) ts (blockOf (r .block)) 0 written
+  hand-start r written h q = rw (h .block) (going-start (openBlock start paper) ts written q)
+
+  pub hand-on : (c : Block) (k : ℕ) (written : List ℕ) (r : Turned) (x : ℕ) → Going (openBlock start paper) ts (blockOf c) k written → k < length ts → Turns c (getD ts k 0) r → x ≡ byteOf (wordOf (r .word))
+      → Going (openBlock start paper) ts (blockOf (r .block)) (k + 1) (set written k x)
+  hand-on c k written r x g l t e = rw (t .block) (going-on (openBlock start paper) ts (blockOf c) k written g x l (e ∙ ap byteOf (t .word)))
+
+  pub hand-end : (c : Block) (k : ℕ) (before written : List ℕ) → length before ≡ length ts → Going (openBlock start paper) ts (blockOf c) k written → length ts ≤ k → HandsOver start paper ts before 0 written
+  unfolding ifLong
+  hand-end c k before written q g l =
+      record { number = rw (eq-eqb _ _ q) refl; words = rw (eq-eqb _ _ q) (all-written (openBlock start paper) ts (blockOf c) k written g l) }
+
+  pub hand-wrong : (before : List ℕ) → (length before ≡ length ts → ⊥) → HandsOver start paper ts before 15 before
+  unfolding ifLong
+  hand-wrong before n = record { number = rw (ne-eqb _ _ n) refl; words = rw (ne-eqb _ _ n) refl }
+
+pub ruleset hand-laws = (hand-start, hand-on, hand-end, hand-wrong)

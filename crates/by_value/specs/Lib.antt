@@ -1,0 +1,2 @@
+-- What the loop for the benchmark writes.
+pub mod Hands
