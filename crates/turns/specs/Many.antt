@@ -43,6 +43,11 @@ takingOf WrongLength = 15
 unfoldable pub ifLong : {A : Type 0} → List ℕ → List ℕ → A → A → A
 ifLong ts before taken wrong = cond (eqb (length before) (length ts)) taken wrong
 
+-- all turns taken: the block and the bytes after them
+pub record TakesAll (b : Block) (ts : List ℕ) (r : Block) (after : List ℕ) : Type 0 where
+  pub block : blockOf r ≡ E.turns limits box (blockOf b) ts
+  pub words : after ≡ bytes (blockOf b) ts
+
 -- the whole of it: the answer, the block, and the lent bytes after it; a refusal leaves the block to the last byte
 pub record Takes (b : Block) (ts before : List ℕ) (r : Taken) (after : List ℕ) : Type 0 where
   pub answer : takingOf (r .answer) ≡ ifLong ts before 0 15

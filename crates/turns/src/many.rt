@@ -12,8 +12,12 @@ use crate::turn::place_of;
 use machine::counts::Ticket;
 ghost use mathlib.Core.Path.{_≡_};
 ghost use mathlib.Core.Bool.{not, _||_};
+ghost use lib.ListN.{length};
+ghost use Rattle.theory.specs.Engine.{blockFits};
+ghost use Rattle.turns.specs.Box.{limits, box};
+ghost use Rattle.turns.specs.Block.{blockOf};
 ghost use Rattle.turns.specs.Turn.{wordOf, foreign};
-ghost use Rattle.turns.specs.Many.{byteOf, Takes};
+ghost use Rattle.turns.specs.Many.{byteOf, TakesAll, Takes};
 
 pub enum Taking {
     Taken,
@@ -52,17 +56,11 @@ fn is_refused(t: Ticket, count: u8, fits: bool) -> bool
     !fits
 }
 
-// The tickets take their turns in order, in this function's own block; there must be a byte for each.
-pub fn take_turns(mut b: Block, tickets: &[u8], words: &mut [u8]) -> Taken
-    ensures { λ r. ⌜ Takes b (now (tickets .entry)) (now (words .entry)) r (now (words .exit)) ⌝ }
+// The tickets take their turns in order, in this function's own block.
+fn take_all(mut b: Block, fits: bool, tickets: &[u8], words: &mut [u8]) -> Block
+    requires { ⌜ (fits ≡ blockFits limits box (blockOf b)) × (length (now words) ≡ length (now tickets)) ⌝ }
+    ensures { λ r. ⌜ TakesAll b (now (tickets .entry)) r (now (words .exit)) ⌝ }
 {
-    if words.len() != tickets.len() {
-        return Taken {
-            answer: Taking::WrongLength,
-            block: b,
-        };
-    }
-    let fits = block_fits(b);
     let mut k: usize = 0;
     while k < tickets.len() {
         let at = k;
@@ -77,14 +75,8 @@ pub fn take_turns(mut b: Block, tickets: &[u8], words: &mut [u8]) -> Taken
         let slot = slot_of(i, list.size);
         let mark = slot_of(i, list.mark);
         let here = b.checkpoints[slot];
-        let own = own_of(
-            b.states[i],
-            b.status[i],
-            b.journals[i],
-            b.versions[i],
-            list,
-            here,
-        );
+        let held = b.journals[i];
+        let own = own_of(b.states[i], b.status[i], held, b.versions[i], list, here);
         let around = around_of(b.status, b.journals, b.versions);
         let done = take_own(b.jobs[i], own, b.checkpoints[mark], around, &b.start, t);
         let word = done.word;
@@ -101,8 +93,22 @@ pub fn take_turns(mut b: Block, tickets: &[u8], words: &mut [u8]) -> Taken
         b.checkpoints[slot] = saved;
         b.reads = reads_after(b.reads, b.count, own, done, t);
     }
+    b
+}
+
+// There must be a byte for each ticket; the sizes are tested once, since a turn keeps them.
+pub fn take_turns(b: Block, tickets: &[u8], words: &mut [u8]) -> Taken
+    ensures { λ r. ⌜ Takes b (now (tickets .entry)) (now (words .entry)) r (now (words .exit)) ⌝ }
+{
+    if words.len() != tickets.len() {
+        return Taken {
+            answer: Taking::WrongLength,
+            block: b,
+        };
+    }
+    let fits = block_fits(b);
     Taken {
         answer: Taking::Taken,
-        block: b,
+        block: take_all(b, fits, tickets, words),
     }
 }

@@ -66,14 +66,8 @@ pub fn turn(mut b: Block, t: Ticket) -> Turned
     let slot = slot_of(i, list.size);
     let mark = slot_of(i, list.mark);
     let here = b.checkpoints[slot];
-    let own = own_of(
-        b.states[i],
-        b.status[i],
-        b.journals[i],
-        b.versions[i],
-        list,
-        here,
-    );
+    let held = b.journals[i];
+    let own = own_of(b.states[i], b.status[i], held, b.versions[i], list, here);
     let around = around_of(b.status, b.journals, b.versions);
     let done = take_own(b.jobs[i], own, b.checkpoints[mark], around, &b.start, t);
     let word = done.word;

@@ -13,7 +13,7 @@ use Rattle.turns.specs.Block.{blockOf}
 use Rattle.turns.specs.Turn.{wordOf, foreign, Turns}
 use Rattle.turns.specs.Own.{Long}
 use Rattle.turns.specs.Going.{Going, going-start, going-on, all-written, all-taken}
-use Rattle.turns.specs.Many.{words, byteOf, takingOf, ifLong, Takes}
+use Rattle.turns.specs.Many.{words, byteOf, takingOf, ifLong, TakesAll, Takes}
 use Rattle.turns.specs.declared.block.Block.{Block}
 use Rattle.turns.specs.declared.turn.Word.{Word}
 use Rattle.turns.specs.declared.turn.Word.the-variants.{Idle, Back, Step, End, Final, Wait, BadTicket, Stuck}
@@ -92,14 +92,21 @@ module _ (b : Block) (ts : List ℕ) (fits : Bool) where
       loop-taken r x fit t long e =
           loop-on r x t long e (fit ∙ sym (ap (E.blockFits limits box) (t .block) ∙ turn-fits limits box box-promise (blockOf c) (getD ts k 0) (sym (g .fitting) ∙ fit)))
 
-    pub taken-all : length ts ≤ k → (before : List ℕ) → length before ≡ length ts → Takes b ts before (record { answer = AllTaken; block = c }) written
-    unfolding takingOf ifLong
-    taken-all l before q = record {
-      answer = rw (eq-eqb _ _ q) refl;
-      block = rw (eq-eqb _ _ q) (all-taken (blockOf b) ts (blockOf c) k written (g .going) l);
-      words = rw (eq-eqb _ _ q) (all-written (blockOf b) ts (blockOf c) k written (g .going) l);
-      left = λ n. absurd (n q);
+    pub loop-end : length ts ≤ k → TakesAll b ts c written
+    loop-end l = record {
+      block = all-taken (blockOf b) ts (blockOf c) k written (g .going) l;
+      words = all-written (blockOf b) ts (blockOf c) k written (g .going) l;
     }
+
+-- ---- the whole
+pub taken-all : (b r : Block) (ts before after : List ℕ) → length before ≡ length ts → TakesAll b ts r after → Takes b ts before (record { answer = AllTaken; block = r }) after
+unfolding takingOf ifLong
+taken-all b r ts before after q h = record {
+  answer = rw (eq-eqb _ _ q) refl;
+  block = rw (eq-eqb _ _ q) (h .block);
+  words = rw (eq-eqb _ _ q) (h .words);
+  left = λ n. absurd (n q);
+}
 
 pub wrong-length : (b : Block) (ts before : List ℕ) → (length before ≡ length ts → ⊥) → Takes b ts before (record { answer = WrongLength; block = b }) before
 unfolding takingOf ifLong

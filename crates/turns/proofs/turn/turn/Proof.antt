@@ -48,6 +48,12 @@ mul-here c = search (c .before .slot-of .ensures .1, needs)
 element-copy-out-here : tie.Need-element-copy-out-here
 element-copy-out-here c = search (c .before .slot-of .ensures .1, needs)
 
+mul-held : tie.Need-mul-held
+mul-held c = search needs
+
+element-copy-out-held : tie.Need-element-copy-out-held
+element-copy-out-held c = search needs
+
 mul-own-of : tie.Need-mul-own-of
 mul-own-of c = search needs
 
@@ -62,12 +68,6 @@ mul-own-of-2 c = search needs
 
 element-copy-out-own-of-3 : tie.Need-element-copy-out-own-of-3
 element-copy-out-own-of-3 c = search needs
-
-mul-own-of-3 : tie.Need-mul-own-of-3
-mul-own-of-3 c = search needs
-
-element-copy-out-own-of-4 : tie.Need-element-copy-out-own-of-4
-element-copy-out-own-of-4 c = search needs
 
 own-of-requires : tie.Need-own-of-requires
 own-of-requires c κs = search needs
@@ -200,13 +200,13 @@ turn-spec =
     slot-of-requires-2
     mul-here
     element-copy-out-here
+    mul-held
+    element-copy-out-held
     mul-own-of
     element-copy-out-own-of
     element-copy-out-own-of-2
     mul-own-of-2
     element-copy-out-own-of-3
-    mul-own-of-3
-    element-copy-out-own-of-4
     own-of-requires
     around-of-requires
     mul-take-own
