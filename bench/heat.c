@@ -13,7 +13,7 @@
 
    Instructions redone are those executed less those that a serial run of the block executes.
    Both ways of going back see the same blocks and the same row of draws of workers. */
-#include "engine.h"
+#include "paper.h"
 
 #include <stdio.h>
 #include <stdlib.h>
@@ -25,11 +25,7 @@ enum {
     WORKERS = 4,
     HOT_CELLS = 32,
     TENTHS = 10,
-    SEGMENTS = 8,
-    INSTRUCTION_BYTES = 9,
-    FIELD_HEAD = 3,
-    PAPER_BYTES = ENGINE_JOBS * (FIELD_HEAD + ENGINE_INSTRUCTIONS * INSTRUCTION_BYTES),
-    MOST_TURNS = 4000
+    SEGMENTS = 8
 };
 
 struct paper {
@@ -52,16 +48,6 @@ struct sums {
     uint64_t to_read;
     uint64_t to_start;
 };
-
-/* A number below `limit`, from a counter whose bits are mixed (splitmix64). */
-static unsigned draw(uint64_t *random, unsigned limit)
-{
-    uint64_t mixed = *random += UINT64_C(0x9e3779b97f4a7c15);
-    mixed = (mixed ^ mixed >> 30) * UINT64_C(0xbf58476d1ce4e5b9);
-    mixed = (mixed ^ mixed >> 27) * UINT64_C(0x94d049bb133111eb);
-    mixed ^= mixed >> 31;
-    return (unsigned)((mixed >> 32) * limit >> 32);
-}
 
 /* A cell from `first` to `first + count - 1` that is not taken yet. */
 static unsigned draw_cell(uint64_t *random, bool *taken, unsigned first, unsigned count)

@@ -40,16 +40,6 @@ static const struct filler {
     {ENGINE_JUMP, 0, 0},
 };
 
-/* A number below `limit`, from a counter whose bits are mixed (splitmix64). */
-static unsigned draw(uint64_t *random, unsigned limit)
-{
-    uint64_t mixed = *random += UINT64_C(0x9e3779b97f4a7c15);
-    mixed = (mixed ^ mixed >> 30) * UINT64_C(0xbf58476d1ce4e5b9);
-    mixed = (mixed ^ mixed >> 27) * UINT64_C(0x94d049bb133111eb);
-    mixed ^= mixed >> 31;
-    return (unsigned)((mixed >> 32) * limit >> 32);
-}
-
 static void put_byte(struct session *session, unsigned byte)
 {
     session->paper[session->length++] = (uint8_t)byte;

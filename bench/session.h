@@ -2,14 +2,7 @@
 #ifndef SESSION_H
 #define SESSION_H
 
-#include "engine.h"
-
-enum {
-    FIELD_HEAD = 3,
-    INSTRUCTION_BYTES = 9,
-    PAPER_BYTES = ENGINE_JOBS * (FIELD_HEAD + ENGINE_INSTRUCTIONS * INSTRUCTION_BYTES),
-    MOST_TURNS = 4000
-};
+#include "paper.h"
 
 struct session {
     uint64_t start[ENGINE_CELLS];

@@ -67,7 +67,7 @@ pub record Lists (o : Own) (s : State) (x : Read) (m : Move) : Type 0 where
 abbrev pub slotAt : ℕ → ℕ → ℕ
 slotAt i n = 8 * i + cond (leb 8 n) 7 n
 
--- .. with the slot at s
+-- the parts, with the slot at s
 abbrev pub partsAt : Block → ℕ → ℕ → Own
 partsAt b i s = record {
   state = getD (b .states) i noState;
@@ -78,6 +78,7 @@ partsAt b i s = record {
   slot = getD (b .checkpoints) s noCheckpoint;
 }
 
+-- .. with the slot of the next listed read
 abbrev pub ownOf : Block → ℕ → Own
 ownOf b i = partsAt b i (slotAt i (getD (b .reads) i noReads .size))
 
