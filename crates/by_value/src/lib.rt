@@ -22,11 +22,12 @@ pub extern "C" fn garvolish_by_value(
     let mut block = opened.block;
     let mut k: usize = 0;
     while k < tickets.len() {
-        let done = turn(block, Ticket(tickets[k]));
-        let word = done.word;
-        words[k] = byte_of(word);
-        block = done.block;
+        let at = k;
         k = k + 1;
+        let done = turn(block, Ticket(tickets[at]));
+        let word = done.word;
+        words[at] = byte_of(word);
+        block = done.block;
     }
     0
 }

@@ -20,11 +20,11 @@ val h = only (LL.vals T.the-type T′.the-laws h)
 
 -- the machine value of a `Numbered`, spelled out as far as its two fields
 abbrev pub numberedVal : Numbered → Val
-numberedVal r = vstruct (vcons (vint w32 (r .number)) (vcons (val (r .block)) vnil))
+numberedVal r = vstruct (vcons (val (r .block)) (vcons (vint w32 (r .number)) vnil))
 
 -- what whoever holds a `Numbered` knows of its fields
 pub number-is : (r : Numbered) (v : Val) → Is R.the-row r (v ∷ []) → Is u32 (r .number) (vint w32 (r .number) ∷ [])
-number-is r v is = LL.owed R.the-type R′.the-laws r _ is .0
+number-is r v is = LL.owed R.the-type R′.the-laws r _ is .1 .0
 
 pub spelled : (r : Numbered) (v : Val) → Is R.the-row r (v ∷ []) → v ≡ numberedVal r
 spelled r v is = ap only (LL.tells R.the-type R′.the-laws r (v ∷ []) is)
@@ -43,11 +43,11 @@ nameOf (tyNamed h) = []
 
 -- its machine type, likewise: a proof that takes it apart then meets the block's type by name, and need not spell it
 abbrev pub numberedTy : Ty
-numberedTy = tyStruct (nameOf R′.mir) (tcons (tyInt w32) (tcons T′.mir tnil))
+numberedTy = tyStruct (nameOf R′.mir) (tcons T′.mir (tcons (tyInt w32) tnil))
 
 pub numbered-is : R′.mir ≡ numberedTy
 unfolding nameOf
 numbered-is = refl
 
 pub block-is : (r : Numbered) (v : Val) → Is R.the-row r (v ∷ []) → Is T.the-row (r .block) (val (r .block) ∷ [])
-block-is r v is = LL.owed R.the-type R′.the-laws r _ is .1 .0
+block-is r v is = LL.owed R.the-type R′.the-laws r _ is .0

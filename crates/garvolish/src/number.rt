@@ -22,8 +22,8 @@ ghost use Rattle.garvolish.specs.Numbers.{wordNumber, packed, TakesTo, O
 
 // An answer, and the block after it.
 pub(crate) struct Numbered {
-    pub number: u32,
     pub block: Block,
+    pub number: u32,
 }
 
 // 0 to 5 in the order of the rules, and the refusals by their own numbers.
@@ -86,8 +86,8 @@ pub(crate) fn open_number(start: &[u64], paper: &[u8]) -> Numbered
     let answer = opened.answer;
     let block = opened.block;
     Numbered {
-        number: number_of_opening(answer),
         block: block,
+        number: number_of_opening(answer),
     }
 }
 
@@ -98,8 +98,8 @@ pub(crate) fn take_number(b: Block, tickets: &[u8], words: &mut [u8]) -> Numbere
     let answer = taken.answer;
     let block = taken.block;
     Numbered {
-        number: number_of_taking(answer),
         block: block,
+        number: number_of_taking(answer),
     }
 }
 

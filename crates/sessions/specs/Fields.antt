@@ -7,6 +7,7 @@ use lib.Dec.{eqb, leb, ltb}
 use lib.ListN.{length, getD, take, drop, set, replicate}
 use Rattle.machine.specs.Limits.{CELLS}
 use Rattle.machine.specs.Paper.{little, tag, size, later}
+use Rattle.sessions.specs.Limits.{BYTES, TURNS}
 use Rattle.sessions.specs.declared.fields.Start.{Start}
 use Rattle.sessions.specs.declared.fields.Parts.{Parts}
 
@@ -21,7 +22,7 @@ isField t bs = leb 3 (length bs) && leb (3 + size bs) (length bs) && eqb (tag bs
 
 -- ---- then one field 0x02 of 0 to 4,000 bytes, one ticket each, and nothing after it
 unfoldable pub isTurns : List ℕ → Bool
-isTurns bs = isField 2 bs && leb (size bs) 4000 && eqb (length bs) (3 + size bs)
+isTurns bs = isField 2 bs && leb (size bs) TURNS && eqb (length bs) (3 + size bs)
 
 -- ---- then a block paper: its length, in at most k fields
 unfoldable pub paperSize : ℕ → List ℕ → ℕ
@@ -63,7 +64,7 @@ unfoldable pub zeros : List ℕ
 zeros = replicate CELLS 0
 
 unfoldable pub sessionOf : List ℕ → Session
-sessionOf bs = cond (ltb 16384 (length bs)) malformed (fromCell 0 zeros bs)
+sessionOf bs = cond (ltb BYTES (length bs)) malformed (fromCell 0 zeros bs)
 
 -- the table of the code's answer, from one of unnamed cells, and where the paper begins; or the session is malformed
 pub record Starts (unnamed bs : List ℕ) (r : Start) : Type 0 where
@@ -77,4 +78,4 @@ pub record Divides (bs : List ℕ) (s : Session) (r : Parts) : Type 0 where
   pub breach : r .sound ≡ false → s ≡ malformed
   pub paper : r .sound ≡ true → r .paper ≤ r .turns
   pub room : r .sound ≡ true → r .turns + 3 ≤ length bs
-  pub few : r .sound ≡ true → length bs ≤ r .turns + 3 + 4000
+  pub few : r .sound ≡ true → length bs ≤ r .turns + 3 + TURNS

@@ -8,6 +8,7 @@ use Rattle.theory.specs.Engine as E
 use Rattle.machine.specs.Machine.{Running}
 use Rattle.turns.specs.Box.{box, limits}
 use Rattle.turns.specs.Open.{openAnswer, openBlock}
+use Rattle.sessions.specs.Limits.{TURNS}
 use Rattle.sessions.specs.Text.{wordText, turnLine, cellLines, refusedLine, Puts}
 use Rattle.sessions.specs.Fields.{Session, session, malformed, sessionOf}
 
@@ -43,4 +44,4 @@ Plays input before after size = Puts before 0 (sessionText input) after size
 pub record Fresh (b : E.Block Running) (ts : List ℕ) : Type 0 where
   pub fits : E.blockFits limits box b ≡ true
   pub none-final : E.finals limits box (b .jobs) ≡ 0
-  pub few : length ts ≤ 4000
+  pub few : length ts ≤ TURNS

@@ -15,6 +15,7 @@ use Rattle.machine.specs.Machine.{Running}
 use Rattle.machine.specs.Paper.{size, later}
 use Rattle.turns.specs.Box.{box, limits}
 use Rattle.turns.specs.Open.{openAnswer, openBlock}
+use Rattle.sessions.specs.Limits.{BYTES, TURNS}
 use Rattle.sessions.specs.Text.{space, newline, digits, decimal, wordText, spaced, lastOf, named, turnLine, cellLine, cellLines, whereOf, refusedLine, put}
 use Rattle.sessions.specs.Fields.{Session, session, malformed, isField, isTurns, paperLength, afterCells, cellIn, valueIn, isNextCell, cellFields, fromCell, zeros, sessionOf}
 use Rattle.sessions.specs.Session.{turnLines, played, unlessRefused, textOf, sessionText, Plays}
@@ -97,7 +98,7 @@ settled-long : (b : E.Block Running) → length (E.settled limits box b) ≡ 256
 unfolding E.settled
 settled-long b = length-map (E.upTo limits box 256) (E.settledCell limits box b) ∙ length-up 256
 
-played-few : (b : E.Block Running) (ts : List ℕ) → length ts ≤ 4000 → length (played b ts) ≤ TEXT
+played-few : (b : E.Block Running) (ts : List ℕ) → length ts ≤ TURNS → length (played b ts) ≤ TEXT
 unfolding played
 played-few b ts l =
     let s = E.settled limits box (E.turns limits box b ts) in
@@ -105,7 +106,7 @@ played-few b ts l =
 
 -- a session has few tickets
 abbrev Few : Session → Type 0
-Few (session table paper ts) = length ts ≤ 4000
+Few (session table paper ts) = length ts ≤ TURNS
 Few malformed = Unit
 
 after-few : (table bs : List ℕ) → Few (afterCells table bs)
@@ -117,9 +118,9 @@ after-few table bs = go (isTurns rest) refl
 
     go : (t : Bool) → isTurns rest ≡ t → Few (cond t (session table (take (paperLength bs) bs) (drop 3 rest)) malformed)
     go true e =
-        let outer = both (isField 2 rest && leb (size rest) 4000) (eqb (length rest) (3 + size rest)) e in
-        let inner = both (isField 2 rest) (leb (size rest) 4000) (outer .0) in
-        omega (arith, leb-true (size rest) 4000 (inner .1), eqb-true (length rest) (3 + size rest) (outer .1), length-drop 3 rest)
+        let outer = both (isField 2 rest && leb (size rest) TURNS) (eqb (length rest) (3 + size rest)) e in
+        let inner = both (isField 2 rest) (leb (size rest) TURNS) (outer .0) in
+        omega (arith, leb-true (size rest) TURNS (inner .1), eqb-true (length rest) (3 + size rest) (outer .1), length-drop 3 rest)
     go false e = tt
 
 cells-have-few : (k least : ℕ) (table bs : List ℕ) → Few (cellFields k least table bs)
@@ -136,7 +137,7 @@ cells-have-few (suc k) least table bs =
 
 session-few : (bs : List ℕ) → Few (sessionOf bs)
 unfolding sessionOf fromCell
-session-few bs = go (ltb 16384 (length bs))
+session-few bs = go (ltb BYTES (length bs))
   where
     go : (t : Bool) → Few (cond t malformed (cellFields (length bs) 0 zeros bs))
     go true = tt

@@ -22,6 +22,14 @@ pub(crate) struct Parts {
     pub turns: usize,
 }
 
+impl Parts {
+    // Bytes in a session.
+    pub const BYTES: usize = 16384;
+
+    // Turns in a session.
+    pub const TURNS: usize = 4000;
+}
+
 // The length of the field that starts here, where its head stands.
 fn size_at(input: &[u8], at: usize) -> usize
     requires { ⌜ at + 3 ≤ length (now input) ⌝ }
@@ -150,7 +158,7 @@ fn ends_in_turns(input: &[u8], at: usize) -> bool
         return false;
     }
     let n = size_at(input, at);
-    if 4000 < n {
+    if Parts::TURNS < n {
         return false;
     }
     if at + 3 + n != input.len() {
@@ -191,7 +199,7 @@ fn parts_from(input: &[u8], table: [u64; 256], from: usize) -> Parts
 pub(crate) fn session_parts(input: &[u8]) -> Parts
     ensures { λ r. ⌜ Divides (now (input .entry)) (sessionOf (now (input .entry))) r ⌝ }
 {
-    if 16384 < input.len() {
+    if Parts::BYTES < input.len() {
         return malformed();
     }
     let start = start_cells(input);

@@ -1,4 +1,5 @@
 // A whole session: its bytes to the text that document 01 gives it.
+use crate::fields::Parts;
 use crate::fields::session_parts;
 use crate::text::put_cells;
 use crate::text::put_refusal;
@@ -51,7 +52,7 @@ fn put_played(output: &mut [u8], b: Block, tickets: &[u8]) -> usize
     ensures { λ r. ⌜ Puts (now (output .entry)) 0 (played (blockOf b) (now (tickets .entry))) (now (output .exit)) r ⌝ }
 {
     let n = tickets.len();
-    let mut words = [0u8; 4000];
+    let mut words = [0u8; Parts::TURNS];
     put_turned(output, b, tickets, &mut words[..n])
 }
 

@@ -9,14 +9,18 @@ use Rattle.theory.specs.Engine as E
 use Rattle.theory.specs.Engine.{withdrawn}
 use Rattle.machine.specs.Limits.{CELLS}
 use Rattle.machine.specs.Machine.{Running}
-use Rattle.machine.specs.View.{noJob}
-use Rattle.machine.specs.declared.job.State.{State}
+use Rattle.machine.specs.View.{codeOf}
 use Rattle.machine.specs.declared.job.Job.{Job}
+use Rattle.machine.specs.declared.job.State.{State}
+use Rattle.machine.specs.declared.counts.Cell.{Cell}
+use Rattle.machine.specs.declared.step.Act.the-variants.{Read as ReadAct}
+use Rattle.machine.specs.declared.step.Stepped.{Stepped}
 use Rattle.turns.specs.View.{entryOf, journalOf, versionsOf, noJournal, noVersions, noReads, Showing, ShowingBelow}
-use Rattle.turns.specs.Block.{noState, noCheckpoint}
-use Rattle.turns.specs.Marks.{Shown, markReads, sweep, ListsFit}
+use Rattle.turns.specs.Block.{codeAt, noState, noCheckpoint}
+use Rattle.turns.specs.Alone.{StepsIn}
+use Rattle.turns.specs.Marks.{markReads, sweep}
 use Rattle.turns.specs.Moves.{Adds}
-use Rattle.turns.specs.Turn.{Did, Reading, Whole}
+use Rattle.turns.specs.Turn.{Did, Reading, Whole, moving}
 use Rattle.turns.specs.declared.block.Entry.{Entry}
 use Rattle.turns.specs.declared.block.Journal.{Journal}
 use Rattle.turns.specs.declared.block.Versions.{Versions}
@@ -26,7 +30,7 @@ use Rattle.turns.specs.declared.block.Reads.{Reads}
 use Rattle.turns.specs.declared.block.Block.{Block}
 use Rattle.turns.specs.declared.marks.Shows.{Shows}
 use Rattle.turns.specs.declared.turn.Word.{Word}
-use Rattle.turns.specs.declared.turn.Word.the-variants.{Idle, Back, Step, End, Final, Wait, BadTicket, Stuck}
+use Rattle.turns.specs.declared.turn.Word.the-variants.{Back, Step, End, Final}
 use Rattle.turns.specs.declared.turn.Turned.{Turned}
 use Rattle.turns.specs.declared.own.Own.{Own}
 use Rattle.turns.specs.declared.own.Around.{Around}
@@ -34,25 +38,29 @@ use Rattle.turns.specs.declared.own.Move.{Move}
 
 -- ---- what a rule makes of a job's parts
 abbrev pub still : Word → Own → Move
-still w o = record { word = w; own = o }
+still w o = record { own = o; word = w; marks = false }
+
+-- .. where it may change what is public, so that the higher jobs are to be marked
+abbrev pub publishing : Word → Own → Move
+publishing w o = record { own = o; word = w; marks = true }
 
 abbrev pub stepped : Own → State → Move
-stepped o s = record { word = Step; own = record { state = s; status = o .status; journal = o .journal; versions = o .versions; list = o .list; slot = o .slot } }
+stepped o s = still Step (record { state = s; status = o .status; journal = o .journal; versions = o .versions; list = o .list; slot = o .slot })
 
 abbrev pub wrote : Own → State → Journal → Move
-wrote o s j = record { word = Step; own = record { state = s; status = o .status; journal = j; versions = o .versions; list = o .list; slot = o .slot } }
+wrote o s j = still Step (record { state = s; status = o .status; journal = j; versions = o .versions; list = o .list; slot = o .slot })
 
 abbrev pub listed : Own → State → Reads → Checkpoint → Move
-listed o s l c = record { word = Step; own = record { state = s; status = o .status; journal = o .journal; versions = o .versions; list = l; slot = c } }
+listed o s l c = still Step (record { state = s; status = o .status; journal = o .journal; versions = o .versions; list = l; slot = c })
 
 abbrev pub ended : Own → Versions → Move
-ended o v = record { word = End; own = record { state = o .state; status = 1; journal = o .journal; versions = v; list = o .list; slot = o .slot } }
+ended o v = publishing End (record { state = o .state; status = 1; journal = o .journal; versions = v; list = o .list; slot = o .slot })
 
 abbrev pub settledOwn : Own → Move
-settledOwn o = record { word = Final; own = record { state = o .state; status = 2; journal = o .journal; versions = o .versions; list = o .list; slot = o .slot } }
+settledOwn o = still Final (record { state = o .state; status = 2; journal = o .journal; versions = o .versions; list = o .list; slot = o .slot })
 
 abbrev pub wentBack : Own → State → Journal → Versions → Reads → Move
-wentBack o s j v l = record { word = Back; own = record { state = s; status = 0; journal = j; versions = v; list = l; slot = o .slot } }
+wentBack o s j v l = publishing Back (record { state = s; status = 0; journal = j; versions = v; list = l; slot = o .slot })
 
 pub record Wrote (o : Own) (s : State) (e : Entry) (m : Move) : Type 0 where
   pub journal : journalOf (m .own .journal) ≡ journalOf (o .journal) ++ (entryOf e ∷ [])
@@ -85,19 +93,9 @@ ownOf b i = partsAt b i (slotAt i (getD (b .reads) i noReads .size))
 abbrev pub showsOf : Own → Shows
 showsOf o = record { journal = o .journal; versions = o .versions }
 
--- only back and end may change what is public
-abbrev pub marking : Word → Bool
-marking Idle = false
-marking Back = true
-marking Step = false
-marking End = true
-marking Final = false
-marking Wait = false
-marking BadTicket = false
-marking Stuck = false
-
-abbrev pub markedBy : Word → List Reads → ℕ → Shows → Shows → ℕ → List Reads
-markedBy w ls n old new t = cond (marking w) (sweep (markReads old new t) t (n - t) ls) ls
+-- the lists of n jobs after ticket t's job has shown something else, if it may have
+abbrev pub markedBy : Bool → List Reads → ℕ → Shows → Shows → ℕ → List Reads
+markedBy x ls n old new t = cond x (sweep (markReads old new t) t (n - t) ls) ls
 
 -- a move of the job at place i stored in its block, the slot at s, with these lists of reads
 abbrev pub storedAt : Block → ℕ → ℕ → Move → List Reads → Block
@@ -117,7 +115,7 @@ storedAt b i s m ls = record {
 unfoldable pub placed : Block → ℕ → Move → Block
 placed b t m =
     let i = t - 1 in
-    storedAt b i (slotAt i (getD (b .reads) i noReads .size)) m (markedBy (m .word) (set (b .reads) i (m .own .list)) (b .count) (showsOf (ownOf b i)) (showsOf (m .own)) t)
+    storedAt b i (slotAt i (getD (b .reads) i noReads .size)) m (markedBy (m .marks) (set (b .reads) i (m .own .list)) (b .count) (showsOf (ownOf b i)) (showsOf (m .own)) t)
 
 abbrev pub turnedBy : Block → ℕ → Move → Turned
 turnedBy b t m = record { word = m .word; block = placed b t m }
@@ -147,8 +145,8 @@ pub record At (b : Block) (t : ℕ) (o : Own) : Type 0 where
 
 pub record Done (b : Block) (t : ℕ) (p : E.Moved Running) (m : Move) : Type 0 where
   pub did : Did b (t - 1) p (turnedBy b t m)
-  pub shown : marking (m .word) ≡ true → Showing (m .own .journal) (m .own .versions)
-  pub few : marking (m .word) ≡ true → m .own .list .size ≤ 8
+  pub shown : m .marks ≡ true → Showing (m .own .journal) (m .own .versions)
+  pub few : m .marks ≡ true → m .own .list .size ≤ 8
 
 pub record Moves (o : Own) (Q : Block → ℕ → Type 0) (plain : Block → ℕ → E.Moved Running) (m : Move) : Type 0 where
   pub on : (b : Block) (t : ℕ) → At b t o → Q b t → Done b t (plain b (t - 1)) m
@@ -166,35 +164,40 @@ pub record AtRead (seen : Around) (value t : ℕ) (next : State) (c : ℕ) (b : 
   pub start : value ≡ getD (b .start) c 0
   pub reading : Reading b (k - 1) next c
 
-pub record AtCell (seen : Around) (cells : List ℕ) (t : ℕ) (next : State) (c : ℕ) (b : Block) (k : ℕ) : Type 0 where
+-- ---- the step that a job would take
+-- an instruction reads only cells of the table
+pub record InCells (done : Stepped) : Type 0 where
+  pub low : (c : Cell) → done .act ≡ ReadAct c → c .0 < CELLS
+
+-- i is the cell that it reads, if it reads one
+pub record Asks (done : Stepped) (i : ℕ) : Type 0 where
+  pub low : i < CELLS
+  pub cell : (c : Cell) → done .act ≡ ReadAct c → i ≡ c .0
+
+pub record AtStep (done : Stepped) (seen : Around) (value t : ℕ) (b : Block) (k : ℕ) : Type 0 where
   pub ticket : k ≡ t
   pub around : seen ≡ aroundOf b
-  pub start : cells ≡ b .start
-  pub reading : Reading b (k - 1) next c
+  pub steps : StepsIn (codeAt b (k - 1)) (getD (b .states) (k - 1) noState) done
+  pub start : (c : Cell) → done .act ≡ ReadAct c → value ≡ getD (b .start) (c .0) 0
 
-pub record AtStep (code : Job) (seen : Around) (cells : List ℕ) (t : ℕ) (b : Block) (k : ℕ) : Type 0 where
-  pub ticket : k ≡ t
-  pub around : seen ≡ aroundOf b
-  pub start : cells ≡ b .start
-  pub job : code ≡ getD (b .jobs) (k - 1) noJob
-
-pub record AtTurn (code : Job) (seen : Around) (cells : List ℕ) (c : Checkpoint) (t : ℕ) (b : Block) (k : ℕ) : Type 0 where
-  pub step : AtStep code seen cells t b k
+pub record AtTurn (done : Stepped) (seen : Around) (value : ℕ) (c : Checkpoint) (t : ℕ) (b : Block) (k : ℕ) : Type 0 where
+  pub step : AtStep done seen value t b k
   pub back : c ≡ getD (b .checkpoints) (slotAt (k - 1) (getD (b .reads) (k - 1) noReads .mark)) noCheckpoint
 
 -- what the parts must be for the code to read them
-pub record Ready (job : Job) (o : Own) (seen : Around) (table : List ℕ) (t : ℕ) : Type 0 where
+pub record Ready (o : Own) (seen : Around) (t : ℕ) : Type 0 where
   pub some : 0 < t
   pub few : t ≤ 16
-  pub code : job .size ≤ 64
-  pub place : o .state .place .0 < job .size
   pub showing : Showing (o .journal) (o .versions)
   pub list : o .list .size ≤ 8
   pub below : ShowingBelow (seen .journals) (seen .versions) (t - 1)
-  pub cells : length table ≡ CELLS
 
--- what marking needs of the lists and of what the job shows, where a move may mark
-pub record MayMark (lists : List Reads) (n : ℕ) (o : Own) (m : Move) (t : ℕ) : Type 0 where
-  pub few : marking (m .word) ≡ true → ListsFit (set lists (t - 1) (m .own .list)) n
-  pub before : marking (m .word) ≡ true → Shown (showsOf o)
-  pub after : marking (m .word) ≡ true → Shown (showsOf (m .own))
+-- ---- a turn that may be refused
+pub record StepsIf (refused : Bool) (code : Job) (s : State) (done : Stepped) : Type 0 where
+  pub cells : InCells done
+  pub steps : refused ≡ false → StepsIn (codeOf code) s done
+
+-- a refused turn leaves the parts as they were, and says so by this word
+pub record MovesIf (refused : Bool) (w : Word) (o : Own) (Q : Block → ℕ → Type 0) (m : Move) : Type 0 where
+  pub stays : refused ≡ true → m ≡ still w o
+  pub moves : refused ≡ false → Moves o Q moving m

@@ -76,6 +76,10 @@ moving b i = E.ruled FEW box (cells b) (jobs b) i (jobOf b i) (jobOf b i .status
 abbrev pub foreign : ℕ → ℕ → Bool
 foreign n t = eqb t 0 || ltb n t
 
+-- the word of a refused turn: 14 before 20
+abbrev pub refusing : Bool → Word
+refusing x = cond x BadTicket Stuck
+
 -- the words that leave a block as it was
 unfoldable pub leaves : W.Word → Bool
 leaves W.idle = true

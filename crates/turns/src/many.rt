@@ -1,22 +1,26 @@
 // A list of tickets, each given its turn: one byte says what became of it.
 use crate::block::Block;
+use crate::marks::mark_above;
+use crate::own::Move;
 use crate::own::around_of;
+use crate::own::cell_read;
 use crate::own::own_of;
-use crate::own::reads_after;
+use crate::own::shows_of;
 use crate::own::slot_of;
 use crate::own::take_own;
+use crate::serial::instruct_at;
 use crate::sizes::block_fits;
 use crate::turn::Word;
-use crate::turn::is_foreign;
+use crate::turn::is_refused;
 use crate::turn::place_of;
 use machine::counts::Ticket;
 ghost use mathlib.Core.Path.{_≡_};
-ghost use mathlib.Core.Bool.{not, _||_};
 ghost use lib.ListN.{length};
 ghost use Rattle.theory.specs.Engine.{blockFits};
 ghost use Rattle.turns.specs.Box.{limits, box};
 ghost use Rattle.turns.specs.Block.{blockOf};
-ghost use Rattle.turns.specs.Turn.{wordOf, foreign};
+ghost use Rattle.turns.specs.Turn.{wordOf};
+ghost use Rattle.turns.specs.Own.{Long};
 ghost use Rattle.turns.specs.Many.{byteOf, TakesAll, Takes};
 
 pub enum Taking {
@@ -26,8 +30,8 @@ pub enum Taking {
 
 // A refusal leaves the bytes and the block as they were.
 pub struct Taken {
-    pub answer: Taking,
     pub block: Block,
+    pub answer: Taking,
 }
 
 // 0 to 5 in the order of the rules, 6 for a turn that was refused.
@@ -46,19 +50,17 @@ pub fn byte_of(word: Word) -> u8
     }
 }
 
-// Whether a turn is refused, by 14 or by 20.
-fn is_refused(t: Ticket, count: u8, fits: bool) -> bool
-    ensures { λ r. ⌜ r ≡ foreign count (t .0) || not fits ⌝ }
+// The byte of what became of a turn.
+fn byte_after(done: Move) -> u8
+    ensures { λ r. ⌜ r ≡ byteOf (wordOf (done .word)) ⌝ }
 {
-    if is_foreign(t, count) {
-        return true;
-    }
-    !fits
+    let word = done.word;
+    byte_of(word)
 }
 
 // The tickets take their turns in order, in this function's own block.
 fn take_all(mut b: Block, fits: bool, tickets: &[u8], words: &mut [u8]) -> Block
-    requires { ⌜ (fits ≡ blockFits limits box (blockOf b)) × (length (now words) ≡ length (now tickets)) ⌝ }
+    requires { ⌜ (fits ≡ blockFits limits box (blockOf b)) × (length (now words) ≡ length (now tickets)) × Long b ⌝ }
     ensures { λ r. ⌜ TakesAll b (now (tickets .entry)) r (now (words .exit)) ⌝ }
 {
     let mut k: usize = 0;
@@ -78,20 +80,25 @@ fn take_all(mut b: Block, fits: bool, tickets: &[u8], words: &mut [u8]) -> Block
         let held = b.journals[i];
         let own = own_of(b.states[i], b.status[i], held, b.versions[i], list, here);
         let around = around_of(b.status, b.journals, b.versions);
-        let done = take_own(b.jobs[i], own, b.checkpoints[mark], around, &b.start, t);
-        let word = done.word;
+        let step = instruct_at(b.jobs[i], b.states[i]);
+        let first = b.start[cell_read(step)];
+        let done = take_own(step, own, b.checkpoints[mark], around, first, t);
         let after = done.own;
         let state = after.state;
         let journal = after.journal;
         let versions = after.versions;
+        let reads = after.list;
         let saved = after.slot;
-        words[at] = byte_of(word);
+        words[at] = byte_after(done);
         b.states[i] = state;
         b.status[i] = after.status;
         b.journals[i] = journal;
         b.versions[i] = versions;
+        b.reads[i] = reads;
         b.checkpoints[slot] = saved;
-        b.reads = reads_after(b.reads, b.count, own, done, t);
+        if done.marks {
+            b.reads = mark_above(b.reads, b.count, shows_of(own), shows_of(after), t);
+        }
     }
     b
 }
@@ -102,13 +109,13 @@ pub fn take_turns(b: Block, tickets: &[u8], words: &mut [u8]) -> Taken
 {
     if words.len() != tickets.len() {
         return Taken {
-            answer: Taking::WrongLength,
             block: b,
+            answer: Taking::WrongLength,
         };
     }
     let fits = block_fits(b);
     Taken {
-        answer: Taking::Taken,
         block: take_all(b, fits, tickets, words),
+        answer: Taking::Taken,
     }
 }

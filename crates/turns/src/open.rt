@@ -31,8 +31,8 @@ pub enum Opening {
 }
 
 pub struct Opened {
-    pub answer: Opening,
     pub block: Block,
+    pub answer: Opening,
 }
 
 fn table_of(start: &[u64]) -> [u64; 256]
@@ -122,22 +122,22 @@ pub fn open(start: &[u64], paper: &[u8]) -> Opened
 {
     if start.len() != (Cell::COUNT as usize) {
         return Opened {
-            answer: Opening::WrongTable,
             block: nothing_open(),
+            answer: Opening::WrongTable,
         };
     }
     let checked = check_paper(paper);
     let verdict = checked.verdict;
     let Verdict::Accepted = verdict else {
         return Opened {
-            answer: refuse_opening(verdict),
             block: nothing_open(),
+            answer: refuse_opening(verdict),
         };
     };
     let table = table_of(start);
     let jobs = checked.jobs;
     Opened {
-        answer: Opening::Accepted,
         block: fresh_block(table, checked.count, jobs),
+        answer: Opening::Accepted,
     }
 }

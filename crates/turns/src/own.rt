@@ -10,8 +10,6 @@ use crate::journal::entry_at;
 use crate::journal::last_entry;
 use crate::journal::with_entry;
 use crate::marks::Shows;
-use crate::marks::mark_above;
-use crate::serial::instruct_at;
 use crate::turn::Word;
 use crate::versions::Shown;
 use crate::versions::find_version;
@@ -20,17 +18,16 @@ use crate::versions::publish;
 use crate::versions::withdraw;
 use machine::counts::Cell;
 use machine::counts::Ticket;
-use machine::job::Job;
 use machine::job::State;
 use machine::step::Act;
+use machine::step::Stepped;
 ghost use mathlib.Core.Path.{_≡_};
 ghost use Prim.Native.Nat.{_-_, _≤_, _<_};
-ghost use lib.ListN.{length, set};
 ghost use Rattle.theory.specs.Engine.{lastValue, orElse};
 ghost use Rattle.turns.specs.View.{journalOf, valueOf, ShowingBelow};
 ghost use Rattle.turns.specs.Moves.{Adds};
 ghost use Rattle.turns.specs.Turn.{listedIn, finalBelow, outside, reading, writing, stepping, moving};
-ghost use Rattle.turns.specs.Own.{stepped, ended, settledOwn, Wrote, Lists, Goes, Moves, AtWrite, AtRead, AtCell, AtStep, AtTurn, Ready, slotAt, showsOf, marking, markedBy, MayMark};
+ghost use Rattle.turns.specs.Own.{still, publishing, stepped, ended, settledOwn, Wrote, Lists, Goes, InCells, Asks, Moves, AtWrite, AtRead, AtStep, AtTurn, Ready, slotAt, showsOf};
 
 // A job's own parts; the slot holds the checkpoint of its next listed read.
 pub(crate) struct Own {
@@ -49,10 +46,11 @@ pub(crate) struct Around {
     pub versions: [Versions; 16],
 }
 
-// What a turn makes of a job's parts.
+// What a turn makes of a job's parts, and whether it may change what is public, so that the higher jobs are to be marked.
 pub(crate) struct Move {
-    pub word: Word,
     pub own: Own,
+    pub word: Word,
+    pub marks: bool,
 }
 
 pub(crate) fn own_of(
@@ -145,14 +143,37 @@ fn all_final(status: [u8; 16], i: u8) -> bool
     true
 }
 
+// A turn that leaves the parts as they were.
+pub(crate) fn stay(own: Own, word: Word) -> Move
+    ensures { λ r. ⌜ r ≡ still word own ⌝ }
+{
+    Move {
+        own: own,
+        word: word,
+        marks: false,
+    }
+}
+
+// A turn that may change what is public.
+fn then_mark(own: Own, word: Word) -> Move
+    ensures { λ r. ⌜ r ≡ publishing word own ⌝ }
+{
+    Move {
+        own: own,
+        word: word,
+        marks: true,
+    }
+}
+
 fn step_to(own: Own, s: State) -> Move
     ensures { λ r. ⌜ r ≡ stepped own s ⌝ }
 {
     let mut r = own;
     r.state = s;
     Move {
-        word: Word::Step,
         own: r,
+        word: Word::Step,
+        marks: false,
     }
 }
 
@@ -165,8 +186,9 @@ fn write_to(own: Own, s: State, e: Entry) -> Move
     r.state = s;
     r.journal = with_entry(j, e);
     Move {
-        word: Word::Step,
         own: r,
+        word: Word::Step,
+        marks: false,
     }
 }
 
@@ -200,8 +222,9 @@ fn list_to(own: Own, s: State, x: Read) -> Move
     r.slot = here;
     r.list = with_read(list, x);
     Move {
-        word: Word::Step,
         own: r,
+        word: Word::Step,
+        marks: false,
     }
 }
 
@@ -211,10 +234,7 @@ fn end_with(own: Own, public: Versions) -> Move
     let mut r = own;
     r.status = 1;
     r.versions = public;
-    Move {
-        word: Word::End,
-        own: r,
-    }
+    then_mark(r, Word::End)
 }
 
 fn settle(own: Own) -> Move
@@ -223,8 +243,9 @@ fn settle(own: Own) -> Move
     let mut r = own;
     r.status = 2;
     Move {
-        word: Word::Final,
         own: r,
+        word: Word::Final,
+        marks: false,
     }
 }
 
@@ -262,10 +283,7 @@ fn back_to(own: Own, c: Checkpoint) -> Move
     r.journal = cut_journal(j, c.writes);
     r.versions = withdraw(v, c.writes);
     r.list = cut_reads(list, c.listed);
-    Move {
-        word: Word::Back,
-        own: r,
-    }
+    then_mark(r, Word::Back)
 }
 
 fn write_cell(own: Own, next: State, e: Entry) -> Move
@@ -273,29 +291,23 @@ fn write_cell(own: Own, next: State, e: Entry) -> Move
 {
     let j = own.journal;
     if 8 <= j.size {
-        return Move {
-            word: Word::Stuck,
-            own: own,
-        };
+        return stay(own, Word::Stuck);
     }
     write_to(own, next, e)
 }
 
 // READ from outside: the version found is listed, if there is room.
-fn read_outside(own: Own, around: Around, start: u64, t: Ticket, next: State, c: Cell) -> Move
+fn read_outside(own: Own, around: Around, first: u64, t: Ticket, next: State, c: Cell) -> Move
     requires { ⌜ (0 < t .0) × (t .0 ≤ 16) × ShowingBelow (around .journals) (around .versions) (t .0 - 1) ⌝ }
-    ensures { λ r. ⌜ Moves own (AtRead around start (t .0) next (c .0)) (λ b i. outside b i (c .0)) r ⌝ }
+    ensures { λ r. ⌜ Moves own (AtRead around first (t .0) next (c .0)) (λ b i. outside b i (c .0)) r ⌝ }
 {
     let list = own.list;
     if 8 <= list.size {
-        return Move {
-            word: Word::Stuck,
-            own: own,
-        };
+        return stay(own, Word::Stuck);
     }
     let journals = around.journals;
     let versions = around.versions;
-    let found = find_version(journals, versions, start, c, Ticket(t.0 - 1));
+    let found = find_version(journals, versions, first, c, Ticket(t.0 - 1));
     let source = found.source;
     let x = Read {
         cell: c,
@@ -307,33 +319,30 @@ fn read_outside(own: Own, around: Around, start: u64, t: Ticket, next: State, c:
 }
 
 // READ of a cell: the job's own value, or one from outside.
-fn read_cell(own: Own, around: Around, start: &[u64], t: Ticket, next: State, c: Cell) -> Move
-    requires { ⌜ (0 < t .0) × (t .0 ≤ 16) × (own .journal .size ≤ 8) × (own .list .size ≤ 8) × ShowingBelow (around .journals) (around .versions) (t .0 - 1) × (c .0 < length (now start)) ⌝ }
-    ensures { λ r. ⌜ Moves own (AtCell around (now (start .entry)) (t .0) next (c .0)) (λ b i. reading b i (c .0)) r ⌝ }
+fn read_cell(own: Own, around: Around, first: u64, t: Ticket, next: State, c: Cell) -> Move
+    requires { ⌜ (0 < t .0) × (t .0 ≤ 16) × (own .journal .size ≤ 8) × (own .list .size ≤ 8) × ShowingBelow (around .journals) (around .versions) (t .0 - 1) ⌝ }
+    ensures { λ r. ⌜ Moves own (AtRead around first (t .0) next (c .0)) (λ b i. reading b i (c .0)) r ⌝ }
 {
     let j = own.journal;
     let list = own.list;
     let held = own_value(j, list, c);
     let Shown::Value(v) = held else {
-        let at = c.0 as usize;
-        return read_outside(own, around, start[at], t, next, c);
+        return read_outside(own, around, first, t, next, c);
     };
     let s = next.given(v);
     step_to(own, s)
 }
 
 // One instruction of a running job that is not marked, or its end.
-fn step_or_end(job: Job, own: Own, around: Around, start: &[u64], t: Ticket) -> Move
-    requires { ⌜ Ready job own around (now start) (t .0) ⌝ }
-    ensures { λ r. ⌜ Moves own (AtStep job around (now (start .entry)) (t .0)) stepping r ⌝ }
+fn step_or_end(step: Stepped, own: Own, around: Around, first: u64, t: Ticket) -> Move
+    requires { ⌜ Ready own around (t .0) ⌝ }
+    ensures { λ r. ⌜ Moves own (AtStep step around first (t .0)) stepping r ⌝ }
 {
-    let s = own.state;
-    let done = instruct_at(job, s);
-    let act = done.act;
-    let next = done.state;
+    let act = step.act;
+    let next = step.state;
     match act {
         Act::Nothing => step_to(own, next),
-        Act::Read(c) => read_cell(own, around, start, t, next, c),
+        Act::Read(c) => read_cell(own, around, first, t, next, c),
         Act::Write(c, v) => write_cell(own, next, Entry { cell: c, value: v }),
         Act::Stop => {
             let j = own.journal;
@@ -344,31 +353,42 @@ fn step_or_end(job: Job, own: Own, around: Around, start: &[u64], t: Ticket) -> 
             let public = no_versions();
             end_with(own, public)
         }
-        Act::Stuck => Move {
-            word: Word::Stuck,
-            own: own,
-        },
+        Act::Stuck => stay(own, Word::Stuck),
     }
 }
 
-// Document 01's rules, tried in order, for a job of a block that fits.
+// The cell that an instruction reads; 0 if it reads none.
+pub(crate) fn cell_read(step: Stepped) -> usize
+    requires { ⌜ InCells step ⌝ }
+    ensures { λ r. ⌜ Asks step r ⌝ }
+{
+    let act = step.act;
+    match act {
+        Act::Nothing => 0,
+        Act::Read(c) => c.0 as usize,
+        Act::Write(_, _) => 0,
+        Act::Stop => 0,
+        Act::Abandon => 0,
+        Act::Stuck => 0,
+    }
+}
+
+// Document 01's rules, tried in order, for a job of a block that fits: with the step that it would take, the checkpoint of
+// its mark, and the start value of the cell that it would read.
 pub(crate) fn take_own(
-    job: Job,
+    step: Stepped,
     own: Own,
     back: Checkpoint,
     around: Around,
-    start: &[u64],
+    first: u64,
     t: Ticket,
 ) -> Move
-    requires { ⌜ Ready job own around (now start) (t .0) ⌝ }
-    ensures { λ r. ⌜ Moves own (AtTurn job around (now (start .entry)) back (t .0)) moving r ⌝ }
+    requires { ⌜ Ready own around (t .0) ⌝ }
+    ensures { λ r. ⌜ Moves own (AtTurn step around first back (t .0)) moving r ⌝ }
 {
     let status = own.status;
     if 2 <= status {
-        return Move {
-            word: Word::Idle,
-            own: own,
-        };
+        return stay(own, Word::Idle);
     }
     let list = own.list;
     let mark = list.mark;
@@ -376,19 +396,16 @@ pub(crate) fn take_own(
         return back_to(own, back);
     }
     if status == 0 {
-        return step_or_end(job, own, around, start, t);
+        return step_or_end(step, own, around, first, t);
     }
     let all = around.status;
     if all_final(all, t.0 - 1) {
         return settle(own);
     }
-    Move {
-        word: Word::Wait,
-        own: own,
-    }
+    stay(own, Word::Wait)
 }
 
-fn shows_of(own: Own) -> Shows
+pub(crate) fn shows_of(own: Own) -> Shows
     ensures { λ r. ⌜ r ≡ showsOf own ⌝ }
 {
     let journal = own.journal;
@@ -397,45 +414,4 @@ fn shows_of(own: Own) -> Shows
         journal: journal,
         versions: versions,
     }
-}
-
-// Whether the higher jobs are to be marked after a word: only back and end may change what is public.
-fn is_marking(word: Word) -> bool
-    ensures { λ r. ⌜ r ≡ marking word ⌝ }
-{
-    match word {
-        Word::Idle => false,
-        Word::Back => true,
-        Word::Step => false,
-        Word::End => true,
-        Word::Final => false,
-        Word::Wait => false,
-        Word::BadTicket => false,
-        Word::Stuck => false,
-    }
-}
-
-// The lists of reads after a job's move: its own stored, and the higher jobs marked.
-pub(crate) fn reads_after(
-    lists: [Reads; 16],
-    count: u8,
-    own: Own,
-    done: Move,
-    t: Ticket,
-) -> [Reads; 16]
-    requires { ⌜ (0 < t .0) × (t .0 ≤ count) × (count ≤ 16) × MayMark lists count own done (t .0) ⌝ }
-    ensures { λ r. ⌜ r ≡ markedBy (done .word) (set lists (t .0 - 1) (done .own .list)) count (showsOf own) (showsOf (done .own)) (t .0) ⌝ }
-{
-    let word = done.word;
-    let after = done.own;
-    let i = (t.0 - 1) as usize;
-    let list = after.list;
-    let mut r = lists;
-    r[i] = list;
-    if !is_marking(word) {
-        return r;
-    }
-    let old = shows_of(own);
-    let new = shows_of(after);
-    mark_above(r, count, old, new, t)
 }

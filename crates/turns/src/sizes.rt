@@ -12,7 +12,10 @@ use machine::instruction::Instruction;
 use machine::job::Job;
 use machine::job::State;
 ghost use mathlib.Core.Path.{_≡_};
+ghost use mathlib.Core.Bool.{cond, _&&_};
+ghost use lib.Dec.{leb};
 ghost use Rattle.theory.specs.Engine.{blockFits};
+ghost use Rattle.machine.specs.Limits.{JOBS};
 ghost use Rattle.turns.specs.Box.{limits, box};
 ghost use Rattle.turns.specs.Block.{blockOf};
 ghost use Rattle.turns.specs.View.{placeAt};
@@ -157,7 +160,7 @@ fn mark_fits(mark: u8, n: u8) -> bool
 }
 
 // A job in its run, with the checkpoints of its reads.
-fn job_fits(
+pub(crate) fn job_fits(
     job: Job,
     state: State,
     journal: Journal,
@@ -187,22 +190,35 @@ fn job_fits(
     mark_fits(reads.mark, reads.size)
 }
 
+// The jobs to be tested: none where there are too many.
+pub(crate) fn jobs_in(count: u8) -> u8
+    ensures { λ r. ⌜ r ≡ cond (leb count JOBS) count 0 ⌝ }
+{
+    if 16 < count {
+        return 0;
+    }
+    count
+}
+
+pub(crate) fn both(x: bool, y: bool) -> bool
+    ensures { λ r. ⌜ r ≡ x && y ⌝ }
+{
+    if x {
+        return y;
+    }
+    false
+}
+
 // Whether a block in work fits its sizes.
 pub(crate) fn block_fits(b: Block) -> bool
     ensures { λ r. ⌜ r ≡ blockFits limits box (blockOf b) ⌝ }
 {
-    let count = b.count;
-    if 16 < count {
-        return false;
-    }
+    let count = jobs_in(b.count);
+    let mut fits = b.count <= 16;
     let mut k: u8 = 0;
     while k < count {
-        let job = b.jobs[k as usize];
-        let state = b.states[k as usize];
-        let journal = b.journals[k as usize];
-        let versions = b.versions[k as usize];
-        let reads = b.reads[k as usize];
-        let at = 8 * (k as usize);
+        let n = k as usize;
+        let at = 8 * n;
         let c0 = b.checkpoints[at];
         let c1 = b.checkpoints[at + 1];
         let c2 = b.checkpoints[at + 2];
@@ -212,10 +228,11 @@ pub(crate) fn block_fits(b: Block) -> bool
         let c6 = b.checkpoints[at + 6];
         let c7 = b.checkpoints[at + 7];
         let cs = [c0, c1, c2, c3, c4, c5, c6, c7];
-        if !job_fits(job, state, journal, versions, reads, cs) {
-            return false;
-        }
+        let held = b.journals[n];
+        let list = b.reads[n];
+        let here = job_fits(b.jobs[n], b.states[n], held, b.versions[n], list, cs);
+        fits = both(fits, here);
         k = k + 1;
     }
-    true
+    fits
 }

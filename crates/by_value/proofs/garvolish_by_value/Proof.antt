@@ -25,6 +25,9 @@ open-requires c κs = search (hand-laws, needs)
 loop-holds : tie.Need-loop-holds Inv-loop μ-loop
 loop-holds c = search (hand-laws, needs)
 
+add-k : tie.Need-add-k Inv-loop μ-loop
+add-k c = search (hand-laws, needs)
+
 shared-slice-read-words : tie.Need-shared-slice-read-words Inv-loop μ-loop
 shared-slice-read-words c = search (hand-laws, needs)
 
@@ -36,9 +39,6 @@ byte-of-requires c κs = search (hand-laws, needs)
 
 slice-write-words : tie.Need-slice-write-words Inv-loop μ-loop
 slice-write-words c = search (hand-laws, needs)
-
-add-k : tie.Need-add-k Inv-loop μ-loop
-add-k c = search (hand-laws, needs)
 
 loop-less : tie.Need-loop-less Inv-loop μ-loop
 loop-less c = search (hand-laws, needs)
@@ -61,11 +61,11 @@ garvolish-by-value-spec =
     returns
     open-requires
     loop-holds
+    add-k
     shared-slice-read-words
     turn-requires
     byte-of-requires
     slice-write-words
-    add-k
     loop-less
     loop-again
     same-length

@@ -86,10 +86,10 @@ ticket-is n fits = LL.owes Tk.the-type Tk′.the-laws (record { 0 = n }) ((refl,
 
 -- the machine value and type of a `Turned`, spelled out as far as its two fields
 abbrev turnedVal : Turned → Val
-turnedVal r = vstruct (vcons (wval (r .word)) (vcons (val (r .block)) vnil))
+turnedVal r = vstruct (vcons (val (r .block)) (vcons (wval (r .word)) vnil))
 
 abbrev turnedTy : Ty
-turnedTy = tyStruct (nameOf R′.mir) (tcons Wd′.mir (tcons T′.mir tnil))
+turnedTy = tyStruct (nameOf R′.mir) (tcons T′.mir (tcons Wd′.mir tnil))
 
 turned-ty : R′.mir ≡ turnedTy
 unfolding nameOf
@@ -100,10 +100,10 @@ spelled r v is = ap only (LL.tells R.the-type R′.the-laws r (v ∷ []) is)
 
 -- what whoever holds a `Turned` knows of its fields
 word-is : (r : Turned) (v : Val) → Is R.the-row r (v ∷ []) → Is Wd.the-row (r .word) (wval (r .word) ∷ [])
-word-is r v is = LL.owed R.the-type R′.the-laws r _ is .0
+word-is r v is = LL.owed R.the-type R′.the-laws r _ is .1 .0
 
 block-is : (r : Turned) (v : Val) → Is R.the-row r (v ∷ []) → Is T.the-row (r .block) (val (r .block) ∷ [])
-block-is r v is = LL.owed R.the-type R′.the-laws r _ is .1 .0
+block-is r v is = LL.owed R.the-type R′.the-laws r _ is .0
 
 module _ {M : Type 1} (𝓤 : URA M) (H : Heap 𝓤) (A : Atoms 𝓤) (at-mem : Memory → SProp 𝓤) (run : Routine → Fun 𝓤) where
   abbrev Turn : Contract 𝓤
@@ -170,9 +170,9 @@ module _ {M : Type 1} (𝓤 : URA M) (H : Heap 𝓤) (A : Atoms 𝓤) (W : Given
         land ! (from ! (stop !)) (init ! 9 refl (LL.lawful R.the-type R′.the-laws 𝓤 H A W .typed r _ is .0)) $
         rewrite ! 9 (λ (u : Val). ‵ (fat fullShare R′.mir l₃ 0 u)) (spelled r v is) refl $
         rewrite ! 9 (λ (τ : Ty). ‵ (fat fullShare τ l₃ 0 (turnedVal r))) turned-ty refl $
-        assigns ! (of-opd ! (load ! (from ! (fld ! {τ = T′.mir} {d = 8} refl (stop !))) (look-in ! 9 (sub ! 1 {τ = T′.mir} {d = 8} refl (whole !))))) (from ! (hop ! (look ! 13 refl) (stop !))) (store-raw ! 1 refl (LL.lawful T.the-type T′.the-laws 𝓤 H A W .typed (r .block) _ (block-is r v is) .0)) $
+        assigns ! (of-opd ! (load ! (from ! (fld ! {τ = T′.mir} {d = 0} refl (stop !))) (look-in ! 9 (sub ! 0 {τ = T′.mir} {d = 0} refl (whole !))))) (from ! (hop ! (look ! 13 refl) (stop !))) (store-raw ! 1 refl (LL.lawful T.the-type T′.the-laws 𝓤 H A W .typed (r .block) _ (block-is r v is) .0)) $
         drop ! $ owned ! Wd.the-row (Is Wd.the-row) (LE.makes Wd.the-type Wd′.the-plain 𝓤 H A) (r .word) _ (word-is r v is) $ use1 W (raw (Number 𝓤 H A at-mem run .pre (to-word (r .word)))) (goes-word (r .word)) $
-        calls-at ! fm (Number 𝓤 H A at-mem run) known-word (to-word (r .word)) (and-then ! (load ! (from ! (fld ! {τ = Wd′.mir} {d = 0} refl (stop !))) (look-in ! 9 (sub ! 0 {τ = Wd′.mir} {d = 0} refl (whole !)))) (no-more !)) (λ u.
+        calls-at ! fm (Number 𝓤 H A at-mem run) known-word (to-word (r .word)) (and-then ! (load ! (from ! (fld ! {τ = Wd′.mir} {d = 44840} refl (stop !))) (look-in ! 9 (sub ! 1 {τ = Wd′.mir} {d = 44840} refl (whole !)))) (no-more !)) (λ u.
         use1 W (later (some (λ (m : ℕ). (‵ ftrue ⊛ ‵ (u32 .own m (u ∷ []))) ⊛ raw (ensured 𝓤 H A told-word.ended (told-word.clauses 𝓤 H A at-mem run) tt (r .word, tt) tt m)))) (id⊢ 𝓤 _) $ await ! tt $ pick ! (λ m.
         split ! $ move ! (1 ∷ []) $ use1 W (raw (fact 𝓤 (m ≡ wordNumber (wordOf (r .word))))) (word-told 𝓤 H A at-mem run (r .word) m) $ heard ! (m ≡ wordNumber (wordOf (r .word))) (λ d. split ! $ drop ! $
         peeks ! u32 (Is u32) (shows 𝓤 H A u32) m (u ∷ []) (λ mis.

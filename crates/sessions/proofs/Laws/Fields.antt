@@ -15,6 +15,7 @@ use mir.Syntax.{w64}
 use borrow.Author.Tests.{lt-ltb, le-ltb, le-leb, lt-leb, eq-eqb, ne-eqb, leb-true, eqb-true, not-true, not-false}
 use Rattle.theory.specs.ReadSizes.{both}
 use Rattle.machine.specs.Paper.{little, tag, size, later}
+use Rattle.sessions.specs.Limits.{BYTES, TURNS}
 use Rattle.sessions.specs.Fields.{Session, session, malformed, isField, isTurns, paperSize, paperLength, afterCells, cellIn, valueIn, isNextCell, cellFields, fromCell, zeros, sessionOf, Starts, Divides}
 use Rattle.sessions.specs.declared.fields.Start.{Start}
 use Rattle.sessions.specs.declared.fields.Parts.{Parts}
@@ -119,12 +120,12 @@ unfolding paperLength
 paper-short bs = paper-inner (length bs) bs
 
 -- the field of tickets is the whole rest
-turns-whole : (bs : List ℕ) → isTurns bs ≡ true → (3 ≤ length bs) × (length bs ≤ 3 + 4000)
+turns-whole : (bs : List ℕ) → isTurns bs ≡ true → (3 ≤ length bs) × (length bs ≤ 3 + TURNS)
 unfolding isTurns
 turns-whole bs e =
-    let outer = both (isField 2 bs && leb (size bs) 4000) (eqb (length bs) (3 + size bs)) e in
-    let inner = both (isField 2 bs) (leb (size bs) 4000) (outer .0) in
-    (omega (arith, whole 2 bs (inner .0)), omega (arith, leb-true (size bs) 4000 (inner .1), eqb-true (length bs) (3 + size bs) (outer .1)))
+    let outer = both (isField 2 bs && leb (size bs) TURNS) (eqb (length bs) (3 + size bs)) e in
+    let inner = both (isField 2 bs) (leb (size bs) TURNS) (outer .0) in
+    (omega (arith, whole 2 bs (inner .0)), omega (arith, leb-true (size bs) TURNS (inner .1), eqb-true (length bs) (3 + size bs) (outer .1)))
 
 after-turns : (table bs : List ℕ) → isTurns (drop (paperLength bs) bs) ≡ true
     → afterCells table bs ≡ session table (take (paperLength bs) bs) (drop 3 (drop (paperLength bs) bs))
@@ -283,17 +284,17 @@ module _ (bs : List ℕ) (at : ℕ) (r : Bool) (er : r ≡ isField 2 (drop at bs
     turns-head = omega (arith, whole 2 (drop at bs) (told r _ er nr), length-drop at bs)
 
     module _ (n : ℕ) (en : n ≡ size (drop at bs)) where
-      pub turns-long : 4000 < n → false ≡ isTurns (drop at bs)
+      pub turns-long : TURNS < n → false ≡ isTurns (drop at bs)
       unfolding isTurns
-      turns-long l = rw (← er, not-false r nr, ← en, lt-leb n 4000 l) refl
+      turns-long l = rw (← er, not-false r nr, ← en, lt-leb n TURNS l) refl
 
       pub turns-inside : at + 3 + n ≤ length bs
       turns-inside = omega (arith, whole 2 (drop at bs) (told r _ er nr), length-drop at bs)
 
-      module _ (l : n ≤ 4000) where
+      module _ (l : n ≤ TURNS) where
         counted : eqb (length bs - at) (3 + n) ≡ isTurns (drop at bs)
         unfolding isTurns
-        counted = rw (← er, not-false r nr, ← en, le-leb n 4000 l, length-drop at bs) refl
+        counted = rw (← er, not-false r nr, ← en, le-leb n TURNS l, length-drop at bs) refl
 
         pub turns-more : (at + 3 + n ≡ length bs → ⊥) → false ≡ isTurns (drop at bs)
         turns-more q = sym (ne-eqb (length bs - at) (3 + n) (λ e. q (omega (arith, turns-inside)))) ∙ counted
@@ -349,18 +350,18 @@ module _ (bs table : List ℕ) (from to : ℕ) (et : to ≡ from + paperLength (
 pub ruleset parts-laws = (parts-inside, parts-breach, parts-sound)
 
 module _ (bs : List ℕ) (r : Parts) where
-  pub session-large : 16384 < length bs → r .sound ≡ false → Divides bs (sessionOf bs) r
+  pub session-large : BYTES < length bs → r .sound ≡ false → Divides bs (sessionOf bs) r
   unfolding sessionOf
-  session-large l e = breached bs _ r e (rw (lt-ltb 16384 (length bs) l) refl)
+  session-large l e = breached bs _ r e (rw (lt-ltb BYTES (length bs) l) refl)
 
-  module _ (small : length bs ≤ 16384) (s : Start) (starts : Starts zeros bs s) where
+  module _ (small : length bs ≤ BYTES) (s : Start) (starts : Starts zeros bs s) where
     pub session-breach : not (s .sound) ≡ true → r .sound ≡ false → Divides bs (sessionOf bs) r
     unfolding sessionOf
-    session-breach n e = breached bs _ r e (rw (le-ltb 16384 (length bs) small) (starts .breach (not-true (s .sound) n)))
+    session-breach n e = breached bs _ r e (rw (le-ltb BYTES (length bs) small) (starts .breach (not-true (s .sound) n)))
 
     pub session-parts : not (s .sound) ≡ false → Divides bs (afterCells (s .table) (drop (s .next) bs)) r → Divides bs (sessionOf bs) r
     unfolding sessionOf
-    session-parts n d = rw (le-ltb 16384 (length bs) small, starts .sound (not-false (s .sound) n)) d
+    session-parts n d = rw (le-ltb BYTES (length bs) small, starts .sound (not-false (s .sound) n)) d
 
 pub start-inside : (bs : List ℕ) (s : Start) → Starts zeros bs s → s .next ≤ length bs
 start-inside bs s h = h .inside

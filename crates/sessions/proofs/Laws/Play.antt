@@ -31,6 +31,7 @@ use Rattle.turns.specs.declared.open.Opened.{Opened}
 use Rattle.turns.specs.declared.open.Opening.{Opening}
 use Rattle.turns.specs.declared.open.Opening.the-variants.{Accepted, WrongTable, Refused}
 use Rattle.turns.specs.declared.settled.Settled.{Settled}
+use Rattle.sessions.specs.Limits.{TURNS}
 use Rattle.sessions.specs.Text.{wordText, byteText, finalByte, byteLines, cellLines, refusedLine, Puts}
 use Rattle.sessions.specs.Fields.{sessionOf, Divides}
 use Rattle.sessions.specs.Session.{turnLines, played, unlessRefused, textOf, sessionText, Fresh, Plays}
@@ -148,7 +149,7 @@ module _ (input out end : List ℕ) (n : ℕ) (p : Parts) (d : Divides input (se
     play-opened h = rw (d .sound (not-false (p .sound) sound), ← opens .answer, ← opens .block) (rw (to-the-end (p .turns + 3) input) at h)
 
 module _ (start paper : List ℕ) (o : Opened) (opens : Opens start paper o) where
-  pub play-fresh : (ts : List ℕ) → length ts ≤ 4000 → Fresh (blockOf (o .block)) ts
+  pub play-fresh : (ts : List ℕ) → length ts ≤ TURNS → Fresh (blockOf (o .block)) ts
   play-fresh ts l = rw (opens .block) (record { fits = open-fits start paper; none-final = open-finals start paper; few = l })
 
 module _ (input : List ℕ) (p : Parts) (d : Divides input (sessionOf input) p) (sound : not (p .sound) ≡ false) where
@@ -164,7 +165,7 @@ module _ (input : List ℕ) (p : Parts) (d : Divides input (sessionOf input) p) 
   pub play-sum : length input < 2 ^ 64 → Fits w64 (p .turns + 3)
   play-sum l = record { fits = omega (arith, play-room) }
 
-  pub play-few : length (take (length input - (p .turns + 3)) (drop (p .turns + 3) input)) ≤ 4000
+  pub play-few : length (take (length input - (p .turns + 3)) (drop (p .turns + 3) input)) ≤ TURNS
   play-few = rw (to-the-end (p .turns + 3) input) (omega (arith, length-drop (p .turns + 3) input, d .few (not-false (p .sound) sound)))
 
 pub ruleset play-laws = (play-breach, play-opened, play-fresh, play-paper, play-room, play-turns, play-sum, play-few)

@@ -1,5 +1,5 @@
 -- A job's parts put back into their block: what did not change is stored as it was, so the block is the one of the plain move.
-use mathlib.Core.Path.{_≡_, refl, ap, _∙_}
+use mathlib.Core.Path.{_≡_, refl, ap}
 use mathlib.Core.List.{List, [], _∷_, _++_}
 use Prim.Native.Nat.{ℕ, zero, suc, _-_, _≤_, _<_}
 use native.Mathlib.Omega.{arith}
@@ -11,7 +11,7 @@ use Rattle.turns.specs.View.{entryOf, journalOf, versionsOf, noJournal, 
 use Rattle.turns.specs.Block.{codeAt, noState, noCheckpoint, runningOf, checkpointOf, jobOf}
 use Rattle.turns.specs.Becomes.{Becomes}
 use Rattle.turns.specs.Moves.{listingOf, Sized, Held, Adds}
-use Rattle.turns.specs.Own.{still, stepped, wrote, listed, ended, settledOwn, wentBack, slotAt, ownOf, showsOf, markedBy, placed, Long}
+use Rattle.turns.specs.Own.{still, stepped, wrote, listed, ended, settledOwn, wentBack, slotAt, partsAt, ownOf, storedAt, placed, Long}
 use Rattle.turns.specs.declared.block.Entry.{Entry}
 use Rattle.turns.specs.declared.block.Journal.{Journal}
 use Rattle.turns.specs.declared.block.Versions.{Versions}
@@ -28,6 +28,20 @@ set-same [] i d = refl
 set-same (x ∷ xs) zero d = refl
 set-same {A = A} (x ∷ xs) (suc i) d = ap (λ (l : List A). x ∷ l) (set-same xs i d)
 
+-- parts that are stored as they were leave the block
+pub stored-still : (b : Block) (i s : ℕ) (x : Word) → storedAt b i s (still x (partsAt b i s)) (set (b .reads) i (getD (b .reads) i noReads)) ≡ b
+stored-still b i s x = λ z. record {
+  start = b .start;
+  count = b .count;
+  jobs = b .jobs;
+  states = set-same (b .states) i noState z;
+  status = set-same (b .status) i 0 z;
+  journals = set-same (b .journals) i noJournal z;
+  versions = set-same (b .versions) i noVersions z;
+  reads = set-same (b .reads) i noReads z;
+  checkpoints = set-same (b .checkpoints) s noCheckpoint z;
+}
+
 module _ (b : Block) (t : ℕ) where
   abbrev i : ℕ
   i = t - 1
@@ -39,19 +53,9 @@ module _ (b : Block) (t : ℕ) where
   at = slotAt i (getD (b .reads) i noReads .size)
 
   -- a turn that changes nothing
-  pub placed-still : (x : Word) → ((ls : List Reads) → markedBy x ls (b .count) (showsOf own) (showsOf own) t ≡ ls) → placed b t (still x own) ≡ b
+  pub placed-still : (x : Word) → placed b t (still x own) ≡ b
   unfolding placed
-  placed-still x h = λ z. record {
-    start = b .start;
-    count = b .count;
-    jobs = b .jobs;
-    states = set-same (b .states) i noState z;
-    status = set-same (b .status) i 0 z;
-    journals = set-same (b .journals) i noJournal z;
-    versions = set-same (b .versions) i noVersions z;
-    reads = (h (set (b .reads) i (getD (b .reads) i noReads)) ∙ set-same (b .reads) i noReads) z;
-    checkpoints = set-same (b .checkpoints) at noCheckpoint z;
-  }
+  placed-still x = stored-still b i at x
 
   module _ (p : 0 < t) (l : t ≤ b .count) (sized : Sized b) (g : Long b) where
     inside : i < b .count

@@ -1,6 +1,6 @@
 -- The sizes: the tests stand in the definition's order, and in a loop what is left from here decides.
 use mathlib.Core.Path.{_≡_, refl, ap, sym, _∙_}
-use mathlib.Core.Bool.{Bool, true, false, not, _&&_}
+use mathlib.Core.Bool.{Bool, true, false, not, cond, _&&_, and-assoc, and-true}
 use mathlib.Core.List.{List, [], _∷_}
 use Prim.Native.Nat.{ℕ, zero, suc, _+_, _*_, _-_, _≤_, _<_}
 use native.Mathlib.Omega.{arith}
@@ -11,6 +11,7 @@ use lib.ListN.{getD}
 use borrow.Author.Tests.{lt-ltb, le-ltb, le-leb, lt-leb, leb-true, eq-eqb, ne-eqb, not-true, not-false}
 use Rattle.theory.specs.Lists.{getD-firsts}
 use Rattle.theory.specs.Engine.{blockFits}
+use Rattle.machine.specs.Limits.{JOBS}
 use Rattle.machine.specs.Instruction.{known, fits}
 use Rattle.machine.specs.Machine.{stopping, formed}
 use Rattle.machine.specs.View.{codeOf, noJob}
@@ -38,6 +39,10 @@ module _ (b x : Bool) (e : b ≡ x) where
   held t = sym e ∙ not-false b t
 
 -- ---- place by place
+passes-one : (f : ℕ → Bool) (k m : ℕ) → f k && passes f (suc k) m ≡ passes f k (suc m)
+unfolding passes
+passes-one f k m = refl
+
 module _ (f : ℕ → Bool) (n k : ℕ) (R : Bool) (q : passes f k (n - k) ≡ R) where
   less : k < n → suc (n - suc k) ≡ n - k
   less l = omega arith
@@ -291,26 +296,52 @@ module _ (cs : List Checkpoint) (a : ℕ) where
   eight-at (suc (suc (suc (suc (suc (suc (suc zero))))))) l = refl
   eight-at (suc (suc (suc (suc (suc (suc (suc (suc i)))))))) l = absurd (omega arith)
 
+-- the jobs from the k-th on decide, where those before it did not
+pub record Testing (b : Block) (n k : ℕ) (x : Bool) : Type 0 where
+  pub few : n ≤ 16
+  pub low : k ≤ n
+  pub rest : x && passes (jobWithinAt b) k (n - k) ≡ blockFits limits box (blockOf b)
+
 module _ (b : Block) where
-  pub block-many : 16 < b .count → false ≡ blockFits limits box (blockOf b)
-  block-many l = sym (block-is b ∙ rw (lt-leb _ _ l) refl)
+  pub test-start : (n : ℕ) → n ≡ cond (leb (b .count) JOBS) (b .count) 0 → Testing b n 0 (leb (b .count) JOBS)
+  test-start n e = rw e (go (leb (b .count) JOBS) refl)
+    where
+      go : (x : Bool) → leb (b .count) JOBS ≡ x → Testing b (cond x (b .count) 0) 0 x
+      go true q = record { few = leb-true (b .count) JOBS q; low = omega arith; rest = sym (block-is b ∙ rw (q, sub-zero) refl) }
+      go false q = record { few = omega arith; low = omega arith; rest = sym (block-is b ∙ rw q refl) }
 
-  pub block-start : b .count ≤ 16 → passes (jobWithinAt b) 0 (b .count - 0) ≡ blockFits limits box (blockOf b)
-  block-start l = sym (block-is b ∙ rw (le-leb _ _ l, sub-zero) refl)
+  here-is : (k : ℕ) → jobWithin (getD (b .jobs) k noJob) (getD (b .states) k noState) (getD (b .journals) k noJournal) (getD (b .versions) k noVersions) (getD (b .reads) k noReads) (listed (eight (b .checkpoints) (8 * k))) ≡ jobWithinAt b k
+  unfolding jobWithin
+  here-is k = rw (reads-same (getD (b .jobs) k noJob .size) (getD (b .journals) k noJournal .size) (getD (b .reads) k noReads) (listed (eight (b .checkpoints) (8 * k))) _ (eight-at (b .checkpoints) (8 * k))) refl
 
-  module _ (k : ℕ) (x : Bool) (q : passes (jobWithinAt b) k (b .count - k) ≡ blockFits limits box (blockOf b)) (l : k < b .count)
-      (e : x ≡ jobWithin (getD (b .jobs) k noJob) (getD (b .states) k noState) (getD (b .journals) k noJournal) (getD (b .versions) k noVersions) (getD (b .reads) k noReads) (listed (eight (b .checkpoints) (8 * k)))) where
-    here : x ≡ jobWithinAt b k
-    unfolding jobWithin
-    here = e ∙ rw (reads-same (getD (b .jobs) k noJob .size) (getD (b .journals) k noJournal .size) (getD (b .reads) k noReads) (listed (eight (b .checkpoints) (8 * k))) _ (eight-at (b .checkpoints) (8 * k))) refl
+  module _ (n k : ℕ) (x : Bool) (g : Testing b n k x) where
+    pub test-on : (l : k < n) (here next : Bool)
+        → here ≡ jobWithin (getD (b .jobs) k noJob) (getD (b .states) k noState) (getD (b .journals) k noJournal) (getD (b .versions) k noVersions) (getD (b .reads) k noReads) (listed (eight (b .checkpoints) (8 * k)))
+        → next ≡ x && here → Testing b n (k + 1) next
+    test-on l here next eh en =
+        record { few = g .few; low = omega (arith, l); rest = rw (en, eh, here-is k, add-one k) (and-assoc x (jobWithinAt b k) (passes (jobWithinAt b) (suc k) (n - suc k)) ∙ ap (λ (y : Bool). x && y) one ∙ g .rest) }
+      where
+        one : jobWithinAt b k && passes (jobWithinAt b) (suc k) (n - suc k) ≡ passes (jobWithinAt b) k (n - k)
+        one = passes-one (jobWithinAt b) k (n - suc k) ∙ ap (passes (jobWithinAt b) k) (let w : suc (n - suc k) ≡ n - k = omega (arith, l) in w)
 
-    pub block-stop : not x ≡ true → false ≡ blockFits limits box (blockOf b)
-    block-stop t = passes-stop (jobWithinAt b) (b .count) k _ q l (failed x _ here t)
+    pub test-end : n ≤ k → x ≡ blockFits limits box (blockOf b)
+    test-end l = sym (and-true x) ∙ ap (λ (y : Bool). x && y) (passes-end (jobWithinAt b) n k _ refl l) ∙ g .rest
 
-    pub block-on : not x ≡ false → passes (jobWithinAt b) (k + 1) (b .count - (k + 1)) ≡ blockFits limits box (blockOf b)
-    block-on t = passes-on (jobWithinAt b) (b .count) k _ q l (held x _ here t)
+-- ---- the jobs to be tested, and both of two tests
+module _ (n : ℕ) where
+  pub jobs-many : 16 < n → 0 ≡ cond (leb n JOBS) n 0
+  jobs-many l = rw (lt-leb n 16 l) refl
 
-  pub block-end : (k : ℕ) → b .count ≤ k → passes (jobWithinAt b) k (b .count - k) ≡ blockFits limits box (blockOf b) → true ≡ blockFits limits box (blockOf b)
-  block-end k l q = passes-end (jobWithinAt b) (b .count) k _ q l
+  pub jobs-few : n ≤ 16 → n ≡ cond (leb n JOBS) n 0
+  jobs-few l = rw (le-leb n 16 l) refl
 
-pub ruleset block-laws = (block-many, block-start, block-stop, block-on, block-end)
+pub ruleset jobs-laws = (jobs-many, jobs-few)
+
+module _ (x y : Bool) where
+  pub both-held : x ≡ true → y ≡ x && y
+  both-held e = rw e refl
+
+  pub both-failed : x ≡ false → false ≡ x && y
+  both-failed e = rw e refl
+
+pub ruleset both-laws = (both-held, both-failed)

@@ -9,18 +9,22 @@ use native.Mathlib.Decide.{ℕ-discrete, decLt}
 use lib.Dec.{ltb}
 use lib.ListN.{length, getD, set, length-set}
 use lib.Seq.{getD-set-same, getD-set-other}
-use borrow.Author.Tests.{not-true, not-false, eq-eqb, ne-eqb, lt-ltb, le-leb, lt-leb}
+use borrow.Author.Tests.{eq-eqb, ne-eqb, lt-ltb, le-leb, lt-leb}
 use Rattle.theory.specs.Engine as E
-use Rattle.machine.specs.View.{noJob}
+use Rattle.machine.specs.Limits.{LONGEST}
+use Rattle.machine.specs.View.{codeOf, noJob}
 use Rattle.machine.specs.declared.job.Job.{Job}
+use Rattle.machine.specs.declared.job.State.{State}
+use Rattle.machine.specs.declared.step.Act.the-variants.{Stuck as StuckAct}
+use Rattle.machine.specs.declared.step.Stepped.{Stepped}
 use Rattle.turns.specs.Box.{box, limits}
 use Rattle.turns.specs.View.{noReads}
-use Rattle.turns.specs.Block.{noCheckpoint, blockOf}
+use Rattle.turns.specs.Block.{codeAt, noState, noCheckpoint, blockOf}
+use Rattle.turns.specs.Alone.{StepsIn}
 use Rattle.turns.specs.Marks.{Shown, markReads, sweep, ListsFit}
 use Rattle.turns.specs.Fitting.{count-fit}
-use Rattle.turns.specs.Turn.{moving, foreign, Did, Turns, Whole}
-use Rattle.turns.specs.Own.{slotAt, partsAt, ownOf, showsOf, marking, markedBy, placed, storedAt, Long, Done, Moves, aroundOf, AtTurn, Ready, MayMark}
-use Rattle.turns.specs.declared.block.Checkpoint.{Checkpoint}
+use Rattle.turns.specs.Turn.{moving, foreign, refusing, Did, Turns, Whole}
+use Rattle.turns.specs.Own.{still, slotAt, partsAt, ownOf, showsOf, markedBy, placed, storedAt, Long, Done, Moves, aroundOf, AtTurn, Asks, Ready, StepsIf, MovesIf}
 use Rattle.turns.specs.declared.block.Reads.{Reads}
 use Rattle.turns.specs.declared.block.Block.{Block}
 use Rattle.turns.specs.declared.marks.Shows.{Shows}
@@ -28,9 +32,12 @@ use Rattle.turns.specs.declared.own.Own.{Own}
 use Rattle.turns.specs.declared.own.Around.{Around}
 use Rattle.turns.specs.declared.own.Move.{Move}
 use Rattle.turns.specs.declared.turn.Word.{Word}
+use Rattle.turns.specs.declared.turn.Word.the-variants.{BadTicket, Stuck}
 use Rattle.turns.proofs.Laws.Words.{inside-of}
 use Rattle.turns.proofs.Laws.Reading.{below-showing}
-use Rattle.turns.proofs.Laws.Turn.{whole-fit, turn-taken}
+use Rattle.turns.proofs.Laws.Turn.{whole-fit, turn-foreign, turn-misfit, turn-taken}
+use Rattle.turns.proofs.Laws.Placed.{stored-still}
+use Rattle.turns.proofs.Laws.Take.{steps-cells}
 
 -- ---- where a checkpoint stands
 module _ (i n : ℕ) where
@@ -75,48 +82,27 @@ not-refused fits n t y ey q = go (foreign n t) fits (sym ey ∙ q)
     go false false z = absurd (let w : _≡_ {A = ℕ} 0 1 = cc in omega arith)
     go true g z = absurd (let w : _≡_ {A = ℕ} 0 1 = cc in omega arith)
 
--- ---- the lists after a move
-module _ (lists : List Reads) (n : ℕ) (o : Own) (m : Move) (t : ℕ) (x : Bool) (e : x ≡ marking (m .word)) where
-  abbrev with-own : List Reads
-  with-own = set lists (t - 1) (m .own .list)
-
-  pub after-quiet : not x ≡ true → with-own ≡ markedBy (m .word) with-own n (showsOf o) (showsOf (m .own)) t
-  after-quiet q = rw (← e, not-true x q) refl
-
-  module _ (q : not x ≡ false) (old new : Shows) (eo : old ≡ showsOf o) (en : new ≡ showsOf (m .own)) where
-    pub after-marked : (r : List Reads) → r ≡ sweep (markReads old new t) t (n - t) with-own → r ≡ markedBy (m .word) with-own n (showsOf o) (showsOf (m .own)) t
-    after-marked r w = rw (← e, not-false x q, ← eo, ← en) w
-
-    pub after-may : n ≤ 16 → MayMark lists n o m t → (n ≤ 16) × ListsFit with-own n × Shown old × Shown new
-    after-may l may =
-        let mark = sym e ∙ not-false x q in
-        (l, may .few mark, subst Shown (sym eo) (may .before mark), subst Shown (sym en) (may .after mark))
-
 length-sweep : (f : Reads → Reads) (k n : ℕ) (ls : List Reads) → length (sweep f k n ls) ≡ length ls
 unfolding sweep
 length-sweep f k zero ls = refl
 length-sweep f k (suc n) ls = length-sweep f (suc k) n _ ∙ length-set ls k (f (getD ls k noReads))
 
-length-marked : (w : Word) (ls : List Reads) (n : ℕ) (old new : Shows) (t : ℕ) → length (markedBy w ls n old new t) ≡ length ls
-length-marked w ls n old new t = go (marking w)
-  where
-    go : (x : Bool) → length (cond x (sweep (markReads old new t) t (n - t) ls) ls) ≡ length ls
-    go true = length-sweep (markReads old new t) t (n - t) ls
-    go false = refl
+length-marked : (x : Bool) (ls : List Reads) (n : ℕ) (old new : Shows) (t : ℕ) → length (markedBy x ls n old new t) ≡ length ls
+length-marked true ls n old new t = length-sweep (markReads old new t) t (n - t) ls
+length-marked false ls n old new t = refl
+
+-- the lists after a move that marks, and after one that does not
+pub marked-by : (x : Bool) (ls ms : List Reads) (n : ℕ) (old new old′ new′ : Shows) (t : ℕ) → x ≡ true → old ≡ old′ → new ≡ new′ → ms ≡ sweep (markReads old new t) t (n - t) ls → ms ≡ markedBy x ls n old′ new′ t
+marked-by x ls ms n old new old′ new′ t e eo en q = rw (e, ← eo, ← en) q
+
+pub unmarked-by : (x : Bool) (ls : List Reads) (n : ℕ) (old new : Shows) (t : ℕ) → x ≡ false → ls ≡ markedBy x ls n old new t
+unmarked-by x ls n old new t e = rw e refl
 
 pub few-tickets : (b : Block) (t : ℕ) → foreign (b .count) t ≡ false → E.blockFits limits box (blockOf b) ≡ true → (0 < t) × (t ≤ 16)
 few-tickets b t mine fit = let own = own-ticket (b .count) t mine in (own .0, omega (arith, own .1, count-fit b fit))
 
 -- ---- the job's parts, as they stand in a block that fits
-module _ (b : Block) (t : ℕ) (mine : foreign (b .count) t ≡ false) (fit : E.blockFits limits box (blockOf b) ≡ true) (long : Long b)
-    (i s k : ℕ) (ei : i ≡ t - 1) (es : s ≡ slotAt i (getD (b .reads) i noReads .size)) (ek : k ≡ slotAt i (getD (b .reads) i noReads .mark))
-    (own : Own) (around : Around) (eo : own ≡ partsAt b i s) (ea : around ≡ aroundOf b) where
-  abbrev job : Job
-  job = getD (b .jobs) i noJob
-
-  abbrev back : Checkpoint
-  back = getD (b .checkpoints) k noCheckpoint
-
+module _ (b : Block) (t : ℕ) (mine : foreign (b .count) t ≡ false) (fit : E.blockFits limits box (blockOf b) ≡ true) where
   some : 0 < t
   some = own-ticket (b .count) t mine .0
 
@@ -129,57 +115,140 @@ module _ (b : Block) (t : ℕ) (mine : foreign (b .count) t ≡ false) (fit : E.
   whole : Whole b
   whole = whole-fit b fit
 
-  own-is : own ≡ ownOf b (t - 1)
-  own-is = rw (eo, es, ei) refl
+  -- the job stands at one of its instructions
+  pub standing : (i : ℕ) → i ≡ t - 1 → (getD (b .states) i noState .place .0 < getD (b .jobs) i noJob .size) × (getD (b .jobs) i noJob .size ≤ LONGEST)
+  standing i ei = rw ei (whole .inside (t - 1) inner, whole .short (t - 1) inner)
 
-  pub ready : Ready job own around (b .start) t
-  ready = rw (own-is, ea, ei) (record {
-    some = some;
-    few = omega (arith, inside, whole .sized .count);
-    code = whole .short (t - 1) inner;
-    place = whole .inside (t - 1) inner;
-    showing = whole .sized .showing .showing (t - 1) inner;
-    list = whole .sized .lists .few (t - 1) inner;
-    below = below-showing b t (whole .sized) some inside;
-    cells = long .start;
-  })
+  module _ (long : Long b) (i s k : ℕ) (ei : i ≡ t - 1) (es : s ≡ slotAt i (getD (b .reads) i noReads .size)) (ek : k ≡ slotAt i (getD (b .reads) i noReads .mark))
+      (own : Own) (around : Around) (eo : own ≡ partsAt b i s) (ea : around ≡ aroundOf b) where
+    own-is : own ≡ ownOf b (t - 1)
+    own-is = rw (eo, es, ei) refl
 
-  module _ (m : Move) (moves : Moves own (AtTurn job around (b .start) back t) moving m) where
-    done : Done b t (moving b (t - 1)) m
-    done = moves .on b t (record { some = some; inside = inside; whole = whole; long = long; own = own-is })
-        (record { step = record { ticket = refl; around = ea; start = refl; job = rw ei refl }; back = rw (ek, ei) refl })
+    pub ready : Ready own around t
+    ready = rw (own-is, ea) (record {
+      some = some;
+      few = omega (arith, inside, whole .sized .count);
+      showing = whole .sized .showing .showing (t - 1) inner;
+      list = whole .sized .lists .few (t - 1) inner;
+      below = below-showing b t (whole .sized) some inside;
+    })
 
-    pub may-mark : (0 < t) × (t ≤ b .count) × (b .count ≤ 16) × MayMark (b .reads) (b .count) own m t
-    may-mark = (
-      some,
-      inside,
-      whole .sized .count,
-      record {
-        few = λ e. record { few = λ j l. few e j l (ℕ-discrete j (t - 1)) };
-        before = λ e. rw own-is (whole .sized .showing .showing (t - 1) inner);
-        after = done .shown;
-      },
-    )
-      where
-        few : marking (m .word) ≡ true → (j : ℕ) → j < b .count → Dec (j ≡ t - 1) → getD (set (b .reads) (t - 1) (m .own .list)) j noReads .size ≤ 8
-        few e j l (yes q) = rw (q, getD-set-same (b .reads) (t - 1) (m .own .list) noReads (omega (arith, inner, long .reads, whole .sized .count))) (done .few e)
-        few e j l (no n) = rw (getD-set-other (b .reads) (t - 1) j (m .own .list) noReads n) (whole .sized .lists .few j l)
+    module _ (step : Stepped) (steps : StepsIn (codeAt b i) (getD (b .states) i noState) step) (c : ℕ) (asks : Asks step c)
+        (m : Move) (moves : Moves own (AtTurn step around (getD (b .start) c 0) (getD (b .checkpoints) k noCheckpoint) t) moving m) where
+      done : Done b t (moving b (t - 1)) m
+      done = moves .on b t (record { some = some; inside = inside; whole = whole; long = long; own = own-is })
+          (record {
+            step = record { ticket = refl; around = ea; steps = rw ei at steps; start = λ d e. ap (λ (x : ℕ). getD (b .start) x 0) (asks .cell d e) };
+            back = rw (ek, ei) refl;
+          })
 
-    module _ (ls : List Reads) (el : ls ≡ markedBy (m .word) (set (b .reads) (t - 1) (m .own .list)) (b .count) (showsOf own) (showsOf (m .own)) t) where
-      stored-is : placed b t m ≡ storedAt b i s m ls
-      unfolding placed
-      stored-is = rw (el, eo, es, ei) refl
+      -- where the move marks, the lists and what the job shows are fit for it
+      pub may-mark : m .marks ≡ true → (old new : Shows) → old ≡ showsOf own → new ≡ showsOf (m .own)
+          → (b .count ≤ 16) × ListsFit (set (b .reads) i (m .own .list)) (b .count) × Shown old × Shown new
+      may-mark e old new eold enew = (
+        whole .sized .count,
+        record { few = λ j l. few j l (ℕ-discrete j i) },
+        rw (eold, own-is) (whole .sized .showing .showing (t - 1) inner),
+        rw enew (done .shown e),
+      )
+        where
+          few : (j : ℕ) → j < b .count → Dec (j ≡ i) → getD (set (b .reads) i (m .own .list)) j noReads .size ≤ 8
+          few j l (yes q) = rw (q, getD-set-same (b .reads) i (m .own .list) noReads (omega (arith, ei, inner, long .reads, whole .sized .count))) (done .few e)
+          few j l (no n) = rw (getD-set-other (b .reads) i j (m .own .list) noReads n) (whole .sized .lists .few j l)
 
-      pub stored-turn : Turns b t (record { word = m .word; block = storedAt b i s m ls })
-      stored-turn = turn-taken b t _ mine some inside fit (subst (λ (r : Block). Did b (t - 1) (moving b (t - 1)) (record { word = m .word; block = r })) stored-is (done .did))
+      module _ (ls : List Reads) (el : ls ≡ markedBy (m .marks) (set (b .reads) i (m .own .list)) (b .count) (showsOf own) (showsOf (m .own)) t) where
+        stored-is : placed b t m ≡ storedAt b i s m ls
+        unfolding placed
+        stored-is = rw (el, eo, es, ei) refl
 
-      pub stored-long : Long (storedAt b i s m ls)
-      stored-long = record {
-        start = long .start;
-        states = length-set (b .states) i (m .own .state) ∙ long .states;
-        status = length-set (b .status) i (m .own .status) ∙ long .status;
-        journals = length-set (b .journals) i (m .own .journal) ∙ long .journals;
-        versions = length-set (b .versions) i (m .own .versions) ∙ long .versions;
-        reads = ap length el ∙ length-marked (m .word) _ (b .count) (showsOf own) (showsOf (m .own)) t ∙ length-set (b .reads) (t - 1) (m .own .list) ∙ long .reads;
-        checkpoints = length-set (b .checkpoints) s (m .own .slot) ∙ long .checkpoints;
-      }
+        pub stored-turn : Turns b t (record { word = m .word; block = storedAt b i s m ls })
+        stored-turn = turn-taken b t _ mine some inside fit (subst (λ (r : Block). Did b (t - 1) (moving b (t - 1)) (record { word = m .word; block = r })) stored-is (done .did))
+
+        pub stored-long : Long (storedAt b i s m ls)
+        stored-long = record {
+          start = long .start;
+          states = length-set (b .states) i (m .own .state) ∙ long .states;
+          status = length-set (b .status) i (m .own .status) ∙ long .status;
+          journals = length-set (b .journals) i (m .own .journal) ∙ long .journals;
+          versions = length-set (b .versions) i (m .own .versions) ∙ long .versions;
+          reads = ap length el ∙ length-marked (m .marks) _ (b .count) (showsOf own) (showsOf (m .own)) t ∙ length-set (b .reads) i (m .own .list) ∙ long .reads;
+          checkpoints = length-set (b .checkpoints) s (m .own .slot) ∙ long .checkpoints;
+        }
+
+-- ---- a turn that may be refused
+pub refusal-ticket : (x : Bool) → x ≡ true → BadTicket ≡ refusing x
+refusal-ticket x q = rw q refl
+
+pub refusal-misfit : (x : Bool) → x ≡ false → Stuck ≡ refusing x
+refusal-misfit x q = rw q refl
+
+pub ruleset refusal-laws = (refusal-ticket, refusal-misfit)
+
+not-true-false : {A : Type 0} (x : Bool) → x ≡ true → x ≡ false → A
+not-true-false x t f = absurd (let z : _≡_ {A = ℕ} 0 1 = cc in omega arith)
+
+module _ (refused : Bool) where
+  pub refused-place : (t : ℕ) → refused ≡ true → (refused ≡ false → 0 ≡ t - 1) × (0 < 16)
+  refused-place t q = (not-true-false refused q, omega arith)
+
+  pub refused-step : (j : Job) (s : State) → refused ≡ true → StepsIf refused j s (record { act = StuckAct; state = s })
+  refused-step j s q = record { cells = record { low = λ c e. absurd (let z : _≡_ {A = ℕ} 0 1 = cc in omega arith) }; steps = not-true-false refused q }
+
+  pub taken-step : (j : Job) (s : State) (r : Stepped) → StepsIn (codeOf j) s r → StepsIf refused j s r
+  taken-step j s r h = record { cells = steps-cells (codeOf j) s r h; steps = λ q. h }
+
+  module _ (w : Word) (o : Own) (Q : Block → ℕ → Type 0) (m : Move) where
+    pub refused-moves : refused ≡ true → m ≡ still w o → MovesIf refused w o Q m
+    refused-moves q e = record { stays = λ z. e; moves = not-true-false refused q }
+
+    pub taken-moves : refused ≡ false → Moves o Q moving m → MovesIf refused w o Q m
+    taken-moves q h = record { stays = λ z. not-true-false refused z q; moves = λ z. h }
+
+-- the parts of a refused turn are stored as they were
+pub stored-refused : (b : Block) (t i s : ℕ) (fits : Bool) → fits ≡ E.blockFits limits box (blockOf b) → (foreign (b .count) t || not fits) ≡ true
+    → (own : Own) → own ≡ partsAt b i s → (m : Move) → m ≡ still (refusing (foreign (b .count) t)) own → (ls : List Reads)
+    → ls ≡ markedBy (m .marks) (set (b .reads) i (m .own .list)) (b .count) (showsOf own) (showsOf (m .own)) t → Turns b t (record { word = m .word; block = storedAt b i s m ls })
+stored-refused b t i s fits ef q own eo m em ls el =
+    rw (el, em, eo, stored-still b i s (refusing (foreign (b .count) t))) (go (foreign (b .count) t) refl fits ef q)
+  where
+    go : (f : Bool) → foreign (b .count) t ≡ f → (g : Bool) → g ≡ E.blockFits limits box (blockOf b) → (f || not g) ≡ true → Turns b t (record { word = cond f BadTicket Stuck; block = b })
+    go true e g eg z = turn-foreign b t true (sym e) refl
+    go false e false eg z = turn-misfit b t false false (sym e) refl eg refl
+    go false e true eg z = absurd (let w : _≡_ {A = ℕ} 0 1 = cc in omega arith)
+
+-- of a turn: whether it is refused, where its parts stand, the step that its job would take, and what became of the parts
+module _ (b : Block) (t : ℕ) (fits : Bool) (ef : fits ≡ E.blockFits limits box (blockOf b)) (refused : Bool) (er : refused ≡ (foreign (b .count) t || not fits)) where
+  mine-if : refused ≡ false → foreign (b .count) t ≡ false
+  mine-if q = not-refused fits (b .count) t refused er q .0
+
+  fit-if : refused ≡ false → E.blockFits limits box (blockOf b) ≡ true
+  fit-if q = sym ef ∙ not-refused fits (b .count) t refused er q .1
+
+  pub few-if : refused ≡ false → (0 < t) × (t ≤ 16)
+  few-if q = few-tickets b t (mine-if q) (fit-if q)
+
+  pub standing-if : (i : ℕ) → (refused ≡ false → i ≡ t - 1) → refused ≡ false → (getD (b .states) i noState .place .0 < getD (b .jobs) i noJob .size) × (getD (b .jobs) i noJob .size ≤ LONGEST)
+  standing-if i ei q = standing b t (mine-if q) (fit-if q) i (ei q)
+
+  module _ (long : Long b) (i s k : ℕ) (ei : refused ≡ false → i ≡ t - 1) (es : s ≡ slotAt i (getD (b .reads) i noReads .size)) (ek : k ≡ slotAt i (getD (b .reads) i noReads .mark))
+      (own : Own) (around : Around) (eo : own ≡ partsAt b i s) (ea : around ≡ aroundOf b) where
+    pub ready-if : refused ≡ false → Ready own around t
+    ready-if q = ready b t (mine-if q) (fit-if q) long i s k (ei q) es ek own around eo ea
+
+    module _ (step : Stepped) (steps : StepsIf refused (getD (b .jobs) i noJob) (getD (b .states) i noState) step) (c : ℕ) (asks : Asks step c) (w : Word) (ew : w ≡ refusing (foreign (b .count) t))
+        (m : Move) (moves : MovesIf refused w own (AtTurn step around (getD (b .start) c 0) (getD (b .checkpoints) k noCheckpoint) t) m) where
+      pub may-mark-if : m .marks ≡ true → (old new : Shows) → old ≡ showsOf own → new ≡ showsOf (m .own)
+          → (b .count ≤ 16) × ListsFit (set (b .reads) i (m .own .list)) (b .count) × Shown old × Shown new
+      may-mark-if e old new eold enew = go refused refl
+        where
+          go : (x : Bool) → refused ≡ x → (b .count ≤ 16) × ListsFit (set (b .reads) i (m .own .list)) (b .count) × Shown old × Shown new
+          go true q = absurd (let quiet : m .marks ≡ false = rw (moves .stays q) refl in let z : _≡_ {A = ℕ} 0 1 = cc in omega arith)
+          go false q = may-mark b t (mine-if q) (fit-if q) long i s k (ei q) es ek own around eo ea step (steps .steps q) c asks m (moves .moves q) e old new eold enew
+
+      pub turned-if : (ls : List Reads) → ls ≡ markedBy (m .marks) (set (b .reads) i (m .own .list)) (b .count) (showsOf own) (showsOf (m .own)) t
+          → Turns b t (record { word = m .word; block = storedAt b i s m ls })
+      turned-if ls el = go refused refl
+        where
+          go : (x : Bool) → refused ≡ x → Turns b t (record { word = m .word; block = storedAt b i s m ls })
+          go true q = stored-refused b t i s fits ef (sym er ∙ q) own eo m (moves .stays q ∙ ap (λ (x : Word). still x own) ew) ls el
+          go false q = stored-turn b t (mine-if q) (fit-if q) long i s k (ei q) es ek own around eo ea step (steps .steps q) c asks m (moves .moves q) ls el

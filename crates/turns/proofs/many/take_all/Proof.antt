@@ -4,13 +4,11 @@ use mathlib.Core.Path.{sym, _∙_}
 use Prim.Native.Nat.{_-_}
 use lib.ListN.{length, getD}
 use borrow.Author.Needs.{needs}
-use Rattle.turns.specs.Own.{Long}
-use Rattle.turns.proofs.Laws.Arrays.{array-laws}
-use Rattle.turns.proofs.Laws.Store.{not-refused, few-tickets, ready, may-mark, stored-turn, stored-long}
+use Rattle.turns.proofs.Laws.Take.{steps-cells}
+use Rattle.turns.proofs.Laws.Store.{not-refused, marked-by, unmarked-by, few-tickets, standing, ready, may-mark, stored-turn, stored-long}
 use Rattle.turns.proofs.Laws.Many.{Looping, loop-start, loop-refused, loop-taken, loop-end}
 use Rattle.turns.proofs.many.take_all.Statement.{statement}
 use Rattle.turns.proofs.many.take_all.Tie as tie
-use Rattle.turns.proofs.many.take_all.Reads as reads
 
 abbrev Inv-loop : tie.InvT-loop
 Inv-loop fits tickets words₀ b₀ k₀ words b k = Looping b₀ tickets fits b k words
@@ -19,19 +17,7 @@ abbrev μ-loop : tie.MeasureT-loop
 μ-loop fits tickets words₀ b₀ k₀ words b k = length tickets - k
 
 loop-holds : tie.Need-loop-holds Inv-loop μ-loop
-loop-holds c =
-    let g = c .before .before .good in
-    let long : Long (c .before .before .args .t1) = record {
-      start = search (g, needs);
-      states = search (array-laws, g, needs);
-      status = search (array-laws, g, needs);
-      journals = search (array-laws, g, needs);
-      versions = search (array-laws, g, needs);
-      reads = search (array-laws, g, needs);
-      checkpoints = search (array-laws, g, needs);
-    } in
-    let c₁ = c .before .before in
-    loop-start _ _ _ _ long (c₁ .pre .0) (c₁ .pre .1)
+loop-holds c = loop-start _ _ _ _ (c .before .before .pre .2) (c .before .before .pre .0) (c .before .before .pre .1)
 
 add-k : tie.Need-add-k Inv-loop μ-loop
 add-k c = search (c .before .before .before .shared-slice-known .given, c .loop-test .taken, needs)
@@ -43,39 +29,40 @@ is-refused-requires : tie.Need-is-refused-requires Inv-loop μ-loop
 is-refused-requires c κs = search needs
 
 slice-write-words : tie.Need-slice-write-words Inv-loop μ-loop
-slice-write-words c =
-    let c₁ = c .before .before .before in
-    search (c₁ .before .loop .inv .going .room, c₁ .loop-test .taken, needs)
+slice-write-words c = search (c .before .before .before .before .loop .inv .going .room, c .before .before .before .loop-test .taken, needs)
 
 loop-less : tie.Need-loop-less Inv-loop μ-loop
 loop-less c = search (c .before .before .before .loop-test .taken, needs)
 
 loop-again : tie.Need-loop-again Inv-loop μ-loop
 loop-again c =
-    let c₁ = c .before .before .before in
-    loop-refused _ _ _ _ _ _ (c₁ .before .loop .inv) (c₁ .loop-test .taken) _ (c .before .is-refused .ensures) (c .if1 .taken)
+    let c₁ = c .before in
+    let c₂ = c₁ .before .before in
+    let c₃ = c₂ .before in
+    loop-refused _ _ _ _ _ _ (c₃ .loop .inv) (c₂ .loop-test .taken) _ (c₁ .is-refused .ensures) (c .if1 .taken)
 
 place-of-requires : tie.Need-place-of-requires Inv-loop μ-loop
 place-of-requires c κs =
-    let c₁ = c .before .before .before .before in
+    let c₁ = c .before in
     let c₂ = c₁ .before .before .before in
-    let g = c₁ .loop .inv in
-    let t = getD (c₂ .args .tickets .now) (c₁ .loop .k) 0 in
-    let free = not-refused _ (c₁ .loop .b .count) t _ (c .before .is-refused .ensures) (c .if1 .left) in
+    let c₃ = c₂ .before .before .before in
+    let g = c₂ .loop .inv in
+    let t = getD (c₃ .args .tickets .now) (c₂ .loop .k) 0 in
+    let free = not-refused _ (c₂ .loop .b .count) t _ (c₁ .is-refused .ensures) (c .if1 .left) in
     let fit = sym (g .fitting) ∙ free .1 in
     few-tickets _ t (free .0) fit
 
 mul-list : tie.Need-mul-list Inv-loop μ-loop
-mul-list c = search needs
+mul-list c = search (c .place-of .ensures .1, needs)
 
 element-copy-out-list : tie.Need-element-copy-out-list Inv-loop μ-loop
-element-copy-out-list c = search needs
+element-copy-out-list c = search (c .place-of .ensures .1, needs)
 
 slot-of-requires : tie.Need-slot-of-requires Inv-loop μ-loop
-slot-of-requires c κs = search needs
+slot-of-requires c κs = c .before .place-of .ensures .1
 
 slot-of-requires-2 : tie.Need-slot-of-requires-2 Inv-loop μ-loop
-slot-of-requires-2 c κs = search needs
+slot-of-requires-2 c κs = c .before .before .place-of .ensures .1
 
 mul-here : tie.Need-mul-here Inv-loop μ-loop
 mul-here c = search (c .before .slot-of .ensures .1, needs)
@@ -84,25 +71,25 @@ element-copy-out-here : tie.Need-element-copy-out-here Inv-loop μ-loop
 element-copy-out-here c = search (c .before .slot-of .ensures .1, needs)
 
 mul-held : tie.Need-mul-held Inv-loop μ-loop
-mul-held c = search needs
+mul-held c = search (c .before .before .before .before .place-of .ensures .1, needs)
 
 element-copy-out-held : tie.Need-element-copy-out-held Inv-loop μ-loop
-element-copy-out-held c = search needs
+element-copy-out-held c = search (c .before .before .before .before .place-of .ensures .1, needs)
 
 mul-own-of : tie.Need-mul-own-of Inv-loop μ-loop
-mul-own-of c = search needs
+mul-own-of c = search (c .before .before .before .before .before .place-of .ensures .1, needs)
 
 element-copy-out-own-of : tie.Need-element-copy-out-own-of Inv-loop μ-loop
-element-copy-out-own-of c = search needs
+element-copy-out-own-of c = search (c .before .before .before .before .before .place-of .ensures .1, needs)
 
 element-copy-out-own-of-2 : tie.Need-element-copy-out-own-of-2 Inv-loop μ-loop
-element-copy-out-own-of-2 c = search needs
+element-copy-out-own-of-2 c = search (c .before .before .before .before .before .before .place-of .ensures .1, needs)
 
 mul-own-of-2 : tie.Need-mul-own-of-2 Inv-loop μ-loop
-mul-own-of-2 c = search needs
+mul-own-of-2 c = search (c .before .before .before .before .before .before .before .place-of .ensures .1, needs)
 
 element-copy-out-own-of-3 : tie.Need-element-copy-out-own-of-3 Inv-loop μ-loop
-element-copy-out-own-of-3 c = search needs
+element-copy-out-own-of-3 c = search (c .before .before .before .before .before .before .before .place-of .ensures .1, needs)
 
 own-of-requires : tie.Need-own-of-requires Inv-loop μ-loop
 own-of-requires c κs = search needs
@@ -110,109 +97,196 @@ own-of-requires c κs = search needs
 around-of-requires : tie.Need-around-of-requires Inv-loop μ-loop
 around-of-requires c κs = search needs
 
+mul-instruct-at : tie.Need-mul-instruct-at Inv-loop μ-loop
+mul-instruct-at c = search (c .before .before .before .before .before .before .before .before .before .before .before .before .before .place-of .ensures .1, needs)
+
+element-copy-out-instruct-at : tie.Need-element-copy-out-instruct-at Inv-loop μ-loop
+element-copy-out-instruct-at c = search (c .before .before .before .before .before .before .before .before .before .before .before .before .before .place-of .ensures .1, needs)
+
+mul-instruct-at-2 : tie.Need-mul-instruct-at-2 Inv-loop μ-loop
+mul-instruct-at-2 c = search (c .before .before .before .before .before .before .before .before .before .before .before .before .before .before .place-of .ensures .1, needs)
+
+element-copy-out-instruct-at-2 : tie.Need-element-copy-out-instruct-at-2 Inv-loop μ-loop
+element-copy-out-instruct-at-2 c = search (c .before .before .before .before .before .before .before .before .before .before .before .before .before .before .place-of .ensures .1, needs)
+
+instruct-at-requires : tie.Need-instruct-at-requires Inv-loop μ-loop
+instruct-at-requires c κs =
+    let c₁ = c .before .before .before .before .before .before .before .before .before .before .before .before .before .before .before in
+    let c₂ = c₁ .before in
+    let c₃ = c₂ .before in
+    let c₄ = c₃ .before .before .before in
+    let c₅ = c₄ .before .before .before in
+    let g = c₄ .loop .inv in
+    let t = getD (c₅ .args .tickets .now) (c₄ .loop .k) 0 in
+    let free = not-refused _ (c₄ .loop .b .count) t _ (c₃ .is-refused .ensures) (c₂ .if1 .left) in
+    let fit = sym (g .fitting) ∙ free .1 in
+    standing _ t (free .0) fit _ (c₁ .place-of .ensures .0)
+
+cell-read-requires : tie.Need-cell-read-requires Inv-loop μ-loop
+cell-read-requires c κs = steps-cells _ _ _ (c .instruct-at .ensures)
+
+mul-first : tie.Need-mul-first Inv-loop μ-loop
+mul-first c = search (c .cell-read .ensures .low, needs)
+
+element-copy-out-first : tie.Need-element-copy-out-first Inv-loop μ-loop
+element-copy-out-first c = search (c .cell-read .ensures .low, needs)
+
 mul-take-own : tie.Need-mul-take-own Inv-loop μ-loop
-mul-take-own c = search needs
+mul-take-own c = search (c .before .before .before .before .before .before .before .before .before .before .before .before .before .before .before .slot-of2 .ensures .1, needs)
 
 element-copy-out-take-own : tie.Need-element-copy-out-take-own Inv-loop μ-loop
-element-copy-out-take-own c = search needs
-
-mul-take-own-2 : tie.Need-mul-take-own-2 Inv-loop μ-loop
-mul-take-own-2 c = search needs
-
-element-copy-out-take-own-2 : tie.Need-element-copy-out-take-own-2 Inv-loop μ-loop
-element-copy-out-take-own-2 c = search needs
+element-copy-out-take-own c = search (c .before .before .before .before .before .before .before .before .before .before .before .before .before .before .before .slot-of2 .ensures .1, needs)
 
 take-own-requires : tie.Need-take-own-requires Inv-loop μ-loop
 take-own-requires c κs =
-    let c₁ = c .before .before .before .before .before in
+    let c₁ = c .before .before .before .before .before .before in
     let c₂ = c₁ .before .before .before .before in
     let c₃ = c₂ .before .before .before .before .before .before in
-    let c₄ = c₃ .before .before .before in
+    let c₄ = c₃ .before in
     let c₅ = c₄ .before .before in
-    let c₆ = c₅ .before .before .before in
-    let c₇ = c₆ .before .before .before in
-    let g = c₆ .loop .inv in
-    let t = getD (c₇ .args .tickets .now) (c₆ .loop .k) 0 in
-    let free = not-refused _ (c₆ .loop .b .count) t _ (c₅ .is-refused .ensures) (c₄ .before .if1 .left) in
+    let c₆ = c₅ .before in
+    let c₇ = c₆ .before in
+    let c₈ = c₇ .before .before .before in
+    let c₉ = c₈ .before .before .before in
+    let g = c₈ .loop .inv in
+    let t = getD (c₉ .args .tickets .now) (c₈ .loop .k) 0 in
+    let free = not-refused _ (c₈ .loop .b .count) t _ (c₇ .is-refused .ensures) (c₆ .if1 .left) in
     let fit = sym (g .fitting) ∙ free .1 in
-    ready _ t (free .0) fit (g .long) _ _ _ (c₄ .place-of .ensures .0) (c₃ .before .slot-of .ensures .0) (c₃ .slot-of2 .ensures .0) _ _ (c₂ .own-of .ensures)
+    ready _ t (free .0) fit (g .long) _ _ _ (c₅ .place-of .ensures .0) (c₄ .slot-of .ensures .0) (c₃ .slot-of2 .ensures .0) _ _ (c₂ .own-of .ensures)
     (c₁ .around-of .ensures)
 
-byte-of-requires : tie.Need-byte-of-requires Inv-loop μ-loop
-byte-of-requires c κs = search needs
+byte-after-requires : tie.Need-byte-after-requires Inv-loop μ-loop
+byte-after-requires c κs = search needs
 
 slice-write-words-2 : tie.Need-slice-write-words-2 Inv-loop μ-loop
-slice-write-words-2 c =
-    let c₁ = c .before .before .before .before .before .before .before .before .before .before .before .before .before .before .before .before .before .before .before .before .before .before .before .before .before .before .before .before .before in
-    search (c₁ .before .loop .inv .going .room, c₁ .loop-test .taken, needs)
+slice-write-words-2 c = search (c .before .before .before .before .before .before .before .before .before .before .before .before .before .before .before .before .before .before .before .before .before .before .before .before .before .before .before .before .before .before .before .before .loop .inv .going .room, c .before .before .before .before .before .before .before .before .before .before .before .before .before .before .before .before .before .before .before .before .before .before .before .before .before .before .before .before .before .before .before .loop-test .taken, needs)
 
 mul-state : tie.Need-mul-state Inv-loop μ-loop
-mul-state c = search (c .before .before .before .before .before .before .before .before .before .before .before .before .before .before .before .before .before .before .before .before .before .before .before .before .before .place-of .ensures .1, needs)
+mul-state c = search (c .before .before .before .before .before .before .before .before .before .before .before .before .before .before .before .before .before .before .before .before .before .before .before .before .before .before .before .place-of .ensures .1, needs)
 
 element-set-from-state : tie.Need-element-set-from-state Inv-loop μ-loop
-element-set-from-state c = search (c .before .before .before .before .before .before .before .before .before .before .before .before .before .before .before .before .before .before .before .before .before .before .before .before .before .place-of .ensures .1, needs)
+element-set-from-state c = search (c .before .before .before .before .before .before .before .before .before .before .before .before .before .before .before .before .before .before .before .before .before .before .before .before .before .before .before .place-of .ensures .1, needs)
 
 element-write-b : tie.Need-element-write-b Inv-loop μ-loop
-element-write-b c = search (c .before .before .before .before .before .before .before .before .before .before .before .before .before .before .before .before .before .before .before .before .before .before .before .before .before .place-of .ensures .1, needs)
+element-write-b c = search (c .before .before .before .before .before .before .before .before .before .before .before .before .before .before .before .before .before .before .before .before .before .before .before .before .before .before .before .place-of .ensures .1, needs)
 
 mul-journal : tie.Need-mul-journal Inv-loop μ-loop
-mul-journal c = search (c .before .before .before .before .before .before .before .before .before .before .before .before .before .before .before .before .before .before .before .before .before .before .before .before .before .place-of .ensures .1, needs)
+mul-journal c = search (c .before .before .before .before .before .before .before .before .before .before .before .before .before .before .before .before .before .before .before .before .before .before .before .before .before .before .before .place-of .ensures .1, needs)
 
 element-set-from-journal : tie.Need-element-set-from-journal Inv-loop μ-loop
-element-set-from-journal c = search (c .before .before .before .before .before .before .before .before .before .before .before .before .before .before .before .before .before .before .before .before .before .before .before .before .before .place-of .ensures .1, needs)
+element-set-from-journal c = search (c .before .before .before .before .before .before .before .before .before .before .before .before .before .before .before .before .before .before .before .before .before .before .before .before .before .before .before .place-of .ensures .1, needs)
 
 mul-versions : tie.Need-mul-versions Inv-loop μ-loop
-mul-versions c = search (c .before .before .before .before .before .before .before .before .before .before .before .before .before .before .before .before .before .before .before .before .before .before .before .before .before .place-of .ensures .1, needs)
+mul-versions c = search (c .before .before .before .before .before .before .before .before .before .before .before .before .before .before .before .before .before .before .before .before .before .before .before .before .before .before .before .place-of .ensures .1, needs)
 
 element-set-from-versions : tie.Need-element-set-from-versions Inv-loop μ-loop
-element-set-from-versions c = search (c .before .before .before .before .before .before .before .before .before .before .before .before .before .before .before .before .before .before .before .before .before .before .before .before .before .place-of .ensures .1, needs)
+element-set-from-versions c = search (c .before .before .before .before .before .before .before .before .before .before .before .before .before .before .before .before .before .before .before .before .before .before .before .before .before .before .before .place-of .ensures .1, needs)
+
+mul-reads : tie.Need-mul-reads Inv-loop μ-loop
+mul-reads c = search (c .before .before .before .before .before .before .before .before .before .before .before .before .before .before .before .before .before .before .before .before .before .before .before .before .before .before .before .place-of .ensures .1, needs)
+
+element-set-from-reads : tie.Need-element-set-from-reads Inv-loop μ-loop
+element-set-from-reads c = search (c .before .before .before .before .before .before .before .before .before .before .before .before .before .before .before .before .before .before .before .before .before .before .before .before .before .before .before .place-of .ensures .1, needs)
 
 mul-saved : tie.Need-mul-saved Inv-loop μ-loop
-mul-saved c = search (c .before .before .before .before .before .before .before .before .before .before .before .before .before .before .before .before .before .before .before .before .before .before .before .slot-of .ensures .1, needs)
+mul-saved c = search (c .before .before .before .before .before .before .before .before .before .before .before .before .before .before .before .before .before .before .before .before .before .before .before .before .before .slot-of .ensures .1, needs)
 
 element-set-from-saved : tie.Need-element-set-from-saved Inv-loop μ-loop
-element-set-from-saved c = search (c .before .before .before .before .before .before .before .before .before .before .before .before .before .before .before .before .before .before .before .before .before .before .before .slot-of .ensures .1, needs)
+element-set-from-saved c = search (c .before .before .before .before .before .before .before .before .before .before .before .before .before .before .before .before .before .before .before .before .before .before .before .before .before .slot-of .ensures .1, needs)
 
-reads-after-requires : tie.Need-reads-after-requires Inv-loop μ-loop
-reads-after-requires c κs =
-    let c₁ = c .before .before .before .before .before .before .before in
-    let c₂ = c₁ .before .before .before .before .before .before in
-    let c₃ = c₂ .before .before .before .before in
-    let c₄ = c₃ .before .before .before .before .before .before in
-    let c₅ = c₄ .before .before .before in
-    let c₆ = c₅ .before .before in
-    let c₇ = c₆ .before .before .before in
-    let c₈ = c₇ .before .before .before in
-    let g = c₇ .loop .inv in
-    let t = getD (c₈ .args .tickets .now) (c₇ .loop .k) 0 in
-    let free = not-refused _ (c₇ .loop .b .count) t _ (c₆ .is-refused .ensures) (c₅ .before .if1 .left) in
+shows-of-requires : tie.Need-shows-of-requires Inv-loop μ-loop
+shows-of-requires c κs = search needs
+
+shows-of-requires-2 : tie.Need-shows-of-requires-2 Inv-loop μ-loop
+shows-of-requires-2 c κs = search needs
+
+mark-above-requires : tie.Need-mark-above-requires Inv-loop μ-loop
+mark-above-requires c κs =
+    let c₁ = c .before in
+    let c₂ = c₁ .before .before in
+    let c₃ = c₂ .before .before .before .before .before .before .before .before in
+    let c₄ = c₃ .before .before .before in
+    let c₅ = c₄ .before in
+    let c₆ = c₅ .before .before .before in
+    let c₇ = c₆ .before .before .before .before in
+    let c₈ = c₇ .before .before .before .before .before .before in
+    let c₉ = c₈ .before in
+    let c₁₀ = c₉ .before .before in
+    let c₁₁ = c₁₀ .before in
+    let c₁₂ = c₁₁ .before in
+    let c₁₃ = c₁₂ .before .before .before in
+    let c₁₄ = c₁₃ .before .before .before in
+    let g = c₁₃ .loop .inv in
+    let t = getD (c₁₄ .args .tickets .now) (c₁₃ .loop .k) 0 in
+    let free = not-refused _ (c₁₃ .loop .b .count) t _ (c₁₂ .is-refused .ensures) (c₁₁ .if1 .left) in
     let fit = sym (g .fitting) ∙ free .1 in
-    may-mark _ t (free .0) fit (g .long) _ _ _ (c₅ .place-of .ensures .0) (c₄ .before .slot-of .ensures .0) (c₄ .slot-of2 .ensures .0) _ _ (c₃ .own-of .ensures)
-    (c₂ .around-of .ensures) _ (c₁ .take-own .ensures)
+    may-mark _ t (free .0) fit (g .long) _ _ _ (c₁₀ .place-of .ensures .0) (c₉ .slot-of .ensures .0) (c₈ .slot-of2 .ensures .0) _ _ (c₇ .own-of .ensures)
+    (c₆ .around-of .ensures) _ (c₅ .instruct-at .ensures) _ (c₄ .cell-read .ensures) _ (c₃ .take-own .ensures) (c₂ .if2 .taken) _ _ (c₁ .shows-of .ensures) (c .shows-of2 .ensures)
 
 loop-less-2 : tie.Need-loop-less-2 Inv-loop μ-loop
-loop-less-2 c = search (c .before .before .before .before .before .before .before .before .before .before .before .before .before .before .before .before .before .before .before .before .before .before .before .before .before .before .before .before .before .before .before .loop-test .taken, needs)
+loop-less-2 c = search (c .before .before .before .before .before .before .before .before .before .before .before .before .before .before .before .before .before .before .before .before .before .before .before .before .before .before .before .before .before .before .before .before .before .before .before .before .loop-test .taken, needs)
 
 loop-again-2 : tie.Need-loop-again-2 Inv-loop μ-loop
 loop-again-2 c =
-    let c₁ = c .before .before in
-    let c₂ = c₁ .before .before .before .before .before .before in
-    let c₃ = c₂ .before .before .before .before .before .before in
-    let c₄ = c₃ .before .before .before .before in
-    let c₅ = c₄ .before .before .before .before .before .before in
+    let c₁ = c .before in
+    let c₂ = c₁ .before in
+    let c₃ = c₂ .before .before in
+    let c₄ = c₃ .before in
+    let c₅ = c₄ .before .before .before .before .before .before .before in
     let c₆ = c₅ .before .before .before in
-    let c₇ = c₆ .before .before in
-    let c₈ = c₇ .before .before in
+    let c₇ = c₆ .before in
+    let c₈ = c₇ .before .before .before in
     let c₉ = c₈ .before .before .before .before in
-    let g = c₈ .before .loop .inv in
-    let t = getD (c₉ .args .tickets .now) (c₈ .before .loop .k) 0 in
-    let free = not-refused _ (c₈ .before .loop .b .count) t _ (c₇ .is-refused .ensures) (c₆ .before .if1 .left) in
+    let c₁₀ = c₉ .before .before .before .before .before .before in
+    let c₁₁ = c₁₀ .before in
+    let c₁₂ = c₁₁ .before .before in
+    let c₁₃ = c₁₂ .before in
+    let c₁₄ = c₁₃ .before in
+    let c₁₅ = c₁₄ .before .before in
+    let c₁₆ = c₁₅ .before in
+    let c₁₇ = c₁₆ .before .before .before in
+    let g = c₁₆ .loop .inv in
+    let t = getD (c₁₇ .args .tickets .now) (c₁₆ .loop .k) 0 in
+    let free = not-refused _ (c₁₆ .loop .b .count) t _ (c₁₄ .is-refused .ensures) (c₁₃ .if1 .left) in
     let fit = sym (g .fitting) ∙ free .1 in
-    let turned = stored-turn _ t (free .0) fit (g .long) _ _ _ (c₆ .place-of .ensures .0) (c₅ .before .slot-of .ensures .0) (c₅ .slot-of2 .ensures .0) _ _ (c₄ .own-of .ensures)
-    (c₃ .around-of .ensures) _ (c₂ .take-own .ensures) _ (c .reads-after .ensures) in
-    let long = stored-long _ t (free .0) fit (g .long) _ _ _ (c₆ .place-of .ensures .0) (c₅ .before .slot-of .ensures .0) (c₅ .slot-of2 .ensures .0) _ _ (c₄ .own-of .ensures)
-    (c₃ .around-of .ensures) _ (c₂ .take-own .ensures) _ (c .reads-after .ensures) in
-    loop-taken _ _ _ _ _ _ g (c₈ .loop-test .taken) _ _ (free .1) turned long (c₁ .byte-of .ensures)
+    loop-taken _ _ _ _ _ _ g (c₁₅ .loop-test .taken) _ _ (free .1)
+    (stored-turn _ t (free .0) fit (g .long) _ _ _ (c₁₂ .place-of .ensures .0) (c₁₁ .slot-of .ensures .0) (c₁₀ .slot-of2 .ensures .0) _ _ (c₉ .own-of .ensures)
+    (c₈ .around-of .ensures) _ (c₇ .instruct-at .ensures) _ (c₆ .cell-read .ensures) _ (c₅ .take-own .ensures) _
+    (marked-by _ _ _ _ _ _ _ _ _ (c₃ .if2 .taken) (c₂ .shows-of .ensures) (c₁ .shows-of2 .ensures) (c .mark-above .ensures)))
+    (stored-long _ t (free .0) fit (g .long) _ _ _ (c₁₂ .place-of .ensures .0) (c₁₁ .slot-of .ensures .0) (c₁₀ .slot-of2 .ensures .0) _ _ (c₉ .own-of .ensures)
+    (c₈ .around-of .ensures) _ (c₇ .instruct-at .ensures) _ (c₆ .cell-read .ensures) _ (c₅ .take-own .ensures) _
+    (marked-by _ _ _ _ _ _ _ _ _ (c₃ .if2 .taken) (c₂ .shows-of .ensures) (c₁ .shows-of2 .ensures) (c .mark-above .ensures)))
+    (c₄ .byte-after .ensures)
+
+loop-less-3 : tie.Need-loop-less-3 Inv-loop μ-loop
+loop-less-3 c = search (c .before .before .before .before .before .before .before .before .before .before .before .before .before .before .before .before .before .before .before .before .before .before .before .before .before .before .before .before .before .before .before .before .loop-test .taken, needs)
+
+loop-again-3 : tie.Need-loop-again-3 Inv-loop μ-loop
+loop-again-3 c =
+    let c₁ = c .before in
+    let c₂ = c₁ .before .before .before .before .before .before .before in
+    let c₃ = c₂ .before .before .before in
+    let c₄ = c₃ .before in
+    let c₅ = c₄ .before .before .before in
+    let c₆ = c₅ .before .before .before .before in
+    let c₇ = c₆ .before .before .before .before .before .before in
+    let c₈ = c₇ .before in
+    let c₉ = c₈ .before .before in
+    let c₁₀ = c₉ .before in
+    let c₁₁ = c₁₀ .before in
+    let c₁₂ = c₁₁ .before .before in
+    let c₁₃ = c₁₂ .before in
+    let c₁₄ = c₁₃ .before .before .before in
+    let g = c₁₃ .loop .inv in
+    let t = getD (c₁₄ .args .tickets .now) (c₁₃ .loop .k) 0 in
+    let free = not-refused _ (c₁₃ .loop .b .count) t _ (c₁₁ .is-refused .ensures) (c₁₀ .if1 .left) in
+    let fit = sym (g .fitting) ∙ free .1 in
+    loop-taken _ _ _ _ _ _ g (c₁₂ .loop-test .taken) _ _ (free .1)
+    (stored-turn _ t (free .0) fit (g .long) _ _ _ (c₉ .place-of .ensures .0) (c₈ .slot-of .ensures .0) (c₇ .slot-of2 .ensures .0) _ _ (c₆ .own-of .ensures)
+    (c₅ .around-of .ensures) _ (c₄ .instruct-at .ensures) _ (c₃ .cell-read .ensures) _ (c₂ .take-own .ensures) _ (unmarked-by _ _ _ _ _ _ (c .if2 .left)))
+    (stored-long _ t (free .0) fit (g .long) _ _ _ (c₉ .place-of .ensures .0) (c₈ .slot-of .ensures .0) (c₇ .slot-of2 .ensures .0) _ _ (c₆ .own-of .ensures)
+    (c₅ .around-of .ensures) _ (c₄ .instruct-at .ensures) _ (c₃ .cell-read .ensures) _ (c₂ .take-own .ensures) _ (unmarked-by _ _ _ _ _ _ (c .if2 .left)))
+    (c₁ .byte-after .ensures)
 
 same-length : tie.Need-same-length Inv-loop μ-loop
 same-length c = search needs
@@ -249,12 +323,18 @@ take-all-spec =
     element-copy-out-own-of-3
     own-of-requires
     around-of-requires
+    mul-instruct-at
+    element-copy-out-instruct-at
+    mul-instruct-at-2
+    element-copy-out-instruct-at-2
+    instruct-at-requires
+    cell-read-requires
+    mul-first
+    element-copy-out-first
     mul-take-own
     element-copy-out-take-own
-    mul-take-own-2
-    element-copy-out-take-own-2
     take-own-requires
-    byte-of-requires
+    byte-after-requires
     slice-write-words-2
     mul-state
     element-set-from-state
@@ -263,10 +343,16 @@ take-all-spec =
     element-set-from-journal
     mul-versions
     element-set-from-versions
+    mul-reads
+    element-set-from-reads
     mul-saved
     element-set-from-saved
-    reads-after-requires
+    shows-of-requires
+    shows-of-requires-2
+    mark-above-requires
     loop-less-2
     loop-again-2
+    loop-less-3
+    loop-again-3
     same-length
     returns)

@@ -23,11 +23,11 @@ enum-told c = search needs
 enum-told-2 : tie.Need-enum-told-2
 enum-told-2 c = search needs
 
-refuse-opening-requires : tie.Need-refuse-opening-requires
-refuse-opening-requires c κs = search needs
-
 nothing-open-requires-2 : tie.Need-nothing-open-requires-2
 nothing-open-requires-2 c κs = search needs
+
+refuse-opening-requires : tie.Need-refuse-opening-requires
+refuse-opening-requires c κs = search needs
 
 returns-2 : tie.Need-returns-2
 returns-2 c = search (open-laws, needs)
@@ -51,8 +51,8 @@ open-spec =
     check-paper-requires
     enum-told
     enum-told-2
-    refuse-opening-requires
     nothing-open-requires-2
+    refuse-opening-requires
     returns-2
     table-of-requires
     fresh-block-requires

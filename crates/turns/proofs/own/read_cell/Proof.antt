@@ -14,15 +14,6 @@ enum-known-held c = search (own-read-laws, needs)
 enum-told : tie.Need-enum-told
 enum-told c = search (own-read-laws, needs)
 
-cast-at : tie.Need-cast-at
-cast-at c = search (own-read-laws, needs)
-
-mul-read-outside : tie.Need-mul-read-outside
-mul-read-outside c = search (own-read-laws, needs)
-
-shared-slice-read-read-outside : tie.Need-shared-slice-read-read-outside
-shared-slice-read-read-outside c = search (own-read-laws, needs)
-
 read-outside-requires : tie.Need-read-outside-requires
 read-outside-requires c κs = search (own-read-laws, needs)
 
@@ -45,9 +36,6 @@ read-cell-spec =
     own-value-requires
     enum-known-held
     enum-told
-    cast-at
-    mul-read-outside
-    shared-slice-read-read-outside
     read-outside-requires
     returns
     given-requires

@@ -5,6 +5,9 @@ use Rattle.turns.proofs.Laws.Take.{own-outside-laws}
 use Rattle.turns.proofs.own.read_outside.Statement.{statement}
 use Rattle.turns.proofs.own.read_outside.Tie as tie
 
+stay-requires : tie.Need-stay-requires
+stay-requires c κs = search (own-outside-laws, needs)
+
 returns : tie.Need-returns
 returns c = search (own-outside-laws, needs)
 
@@ -26,4 +29,11 @@ returns-2 c = search (own-outside-laws, needs)
 pub read-outside-spec : {M : Type 1} → statement M
 read-outside-spec =
     tie.close
-    (tie.spec returns sub-t16 find-version-requires given-requires list-to-requires returns-2)
+    (tie.spec
+    stay-requires
+    returns
+    sub-t16
+    find-version-requires
+    given-requires
+    list-to-requires
+    returns-2)

@@ -5,9 +5,6 @@ use Rattle.turns.proofs.Laws.Take.{own-step-laws}
 use Rattle.turns.proofs.own.step_or_end.Statement.{statement}
 use Rattle.turns.proofs.own.step_or_end.Tie as tie
 
-instruct-at-requires : tie.Need-instruct-at-requires
-instruct-at-requires c κs = search (own-step-laws, needs)
-
 enum-told : tie.Need-enum-told
 enum-told c = search (own-step-laws, needs)
 
@@ -47,6 +44,9 @@ end-with-requires-2 c κs = search (own-step-laws, needs)
 enum-told-4 : tie.Need-enum-told-4
 enum-told-4 c = search (own-step-laws, needs)
 
+stay-requires : tie.Need-stay-requires
+stay-requires c κs = search (own-step-laws, needs)
+
 returns : tie.Need-returns
 returns c = search (own-step-laws, needs)
 
@@ -69,7 +69,6 @@ pub step-or-end-spec : {M : Type 1} → statement M
 step-or-end-spec =
     tie.close
     (tie.spec
-    instruct-at-requires
     enum-told
     step-to-requires
     enum-known-act
@@ -83,6 +82,7 @@ step-or-end-spec =
     no-versions-requires
     end-with-requires-2
     enum-told-4
+    stay-requires
     returns
     returns-2
     returns-3

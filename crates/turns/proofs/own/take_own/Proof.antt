@@ -5,6 +5,9 @@ use Rattle.turns.proofs.Laws.Take.{own-turn-laws}
 use Rattle.turns.proofs.own.take_own.Statement.{statement}
 use Rattle.turns.proofs.own.take_own.Tie as tie
 
+stay-requires : tie.Need-stay-requires
+stay-requires c κs = search (own-turn-laws, needs)
+
 returns : tie.Need-returns
 returns c = search (own-turn-laws, needs)
 
@@ -32,6 +35,9 @@ settle-requires c κs = search (own-turn-laws, needs)
 returns-4 : tie.Need-returns-4
 returns-4 c = search (own-turn-laws, needs)
 
+stay-requires-2 : tie.Need-stay-requires-2
+stay-requires-2 c κs = search (own-turn-laws, needs)
+
 returns-5 : tie.Need-returns-5
 returns-5 c = search (own-turn-laws, needs)
 
@@ -39,6 +45,7 @@ pub take-own-spec : {M : Type 1} → statement M
 take-own-spec =
     tie.close
     (tie.spec
+    stay-requires
     returns
     back-to-requires
     returns-2
@@ -48,4 +55,5 @@ take-own-spec =
     all-final-requires
     settle-requires
     returns-4
+    stay-requires-2
     returns-5)

@@ -1,96 +1,153 @@
--- 14 before 20 before the rules,
--- and what the rules made of the parts is stored where they were read.
-use mathlib.Core.Path.{sym, _∙_}
-use borrow.Author.Tests.{not-false}
+-- Each job is tested after those before it, so those that are left decide;
+-- and the turn is taken or refused by what the test says.
+use Prim.Native.Nat.{_-_}
 use borrow.Author.Needs.{needs}
 use Rattle.turns.specs.Own.{Long}
 use Rattle.turns.proofs.Laws.Arrays.{array-laws}
-use Rattle.turns.proofs.Laws.Turn.{turn-foreign, turn-misfit}
-use Rattle.turns.proofs.Laws.Store.{few-tickets, ready, may-mark, stored-turn}
+use Rattle.turns.proofs.Laws.Sizes.{Testing, test-start, test-on, test-end}
 use Rattle.turns.proofs.turn.turn.Statement.{statement}
 use Rattle.turns.proofs.turn.turn.Tie as tie
-use Rattle.turns.proofs.turn.turn.Reads as reads
 
-is-foreign-requires : tie.Need-is-foreign-requires
-is-foreign-requires c κs = search needs
+abbrev Inv-loop : tie.InvT-loop
+Inv-loop t b count fits₀ k₀ fits k = Testing b count k fits
 
-returns : tie.Need-returns
-returns c = search (turn-foreign, needs)
+abbrev μ-loop : tie.MeasureT-loop
+μ-loop t b count fits₀ k₀ fits k = count - k
 
-block-fits-requires : tie.Need-block-fits-requires
-block-fits-requires c κs = search needs
+jobs-in-requires : tie.Need-jobs-in-requires Inv-loop μ-loop
+jobs-in-requires c κs = search needs
 
-returns-2 : tie.Need-returns-2
-returns-2 c = search (turn-misfit, needs)
+loop-holds : tie.Need-loop-holds Inv-loop μ-loop
+loop-holds c = test-start _ _ (c .jobs-in .ensures)
 
-place-of-requires : tie.Need-place-of-requires
-place-of-requires c κs =
-    let c₁ = c .before .before in
-    let mine = sym (c₁ .before .is-foreign .ensures) ∙ c₁ .if1 .left in
-    let fit = sym (c .before .block-fits .ensures) ∙ not-false _ (c .if2 .left) in
-    few-tickets _ _ mine fit
+cast-n : tie.Need-cast-n Inv-loop μ-loop
+cast-n c = search (array-laws, c .before .loop .inv .few, c .loop-test .taken, needs)
 
-mul-list : tie.Need-mul-list
-mul-list c = search needs
+mul-at : tie.Need-mul-at Inv-loop μ-loop
+mul-at c = search (array-laws, c .before .loop .inv .few, c .loop-test .taken, needs)
 
-element-copy-out-list : tie.Need-element-copy-out-list
-element-copy-out-list c = search needs
+mul-c0 : tie.Need-mul-c0 Inv-loop μ-loop
+mul-c0 c = search (array-laws, c .before .loop .inv .few, c .loop-test .taken, needs)
 
-slot-of-requires : tie.Need-slot-of-requires
-slot-of-requires c κs = search needs
+element-copy-out-c0 : tie.Need-element-copy-out-c0 Inv-loop μ-loop
+element-copy-out-c0 c = search (array-laws, c .before .loop .inv .few, c .loop-test .taken, needs)
 
-slot-of-requires-2 : tie.Need-slot-of-requires-2
-slot-of-requires-2 c κs = search needs
+add-c1 : tie.Need-add-c1 Inv-loop μ-loop
+add-c1 c = search (array-laws, c .before .before .loop .inv .few, c .before .loop-test .taken, needs)
 
-mul-here : tie.Need-mul-here
-mul-here c = search (c .before .slot-of .ensures .1, needs)
+mul-c1 : tie.Need-mul-c1 Inv-loop μ-loop
+mul-c1 c = search (array-laws, c .before .before .loop .inv .few, c .before .loop-test .taken, needs)
 
-element-copy-out-here : tie.Need-element-copy-out-here
-element-copy-out-here c = search (c .before .slot-of .ensures .1, needs)
+element-copy-out-c1 : tie.Need-element-copy-out-c1 Inv-loop μ-loop
+element-copy-out-c1 c = search (array-laws, c .before .before .loop .inv .few, c .before .loop-test .taken, needs)
 
-mul-held : tie.Need-mul-held
-mul-held c = search needs
+add-c2 : tie.Need-add-c2 Inv-loop μ-loop
+add-c2 c = search (array-laws, c .before .before .before .loop .inv .few, c .before .before .loop-test .taken, needs)
 
-element-copy-out-held : tie.Need-element-copy-out-held
-element-copy-out-held c = search needs
+mul-c2 : tie.Need-mul-c2 Inv-loop μ-loop
+mul-c2 c = search (array-laws, c .before .before .before .loop .inv .few, c .before .before .loop-test .taken, needs)
 
-mul-own-of : tie.Need-mul-own-of
-mul-own-of c = search needs
+element-copy-out-c2 : tie.Need-element-copy-out-c2 Inv-loop μ-loop
+element-copy-out-c2 c = search (array-laws, c .before .before .before .loop .inv .few, c .before .before .loop-test .taken, needs)
 
-element-copy-out-own-of : tie.Need-element-copy-out-own-of
-element-copy-out-own-of c = search needs
+add-c3 : tie.Need-add-c3 Inv-loop μ-loop
+add-c3 c = search (array-laws, c .before .before .before .before .loop .inv .few, c .before .before .before .loop-test .taken, needs)
 
-element-copy-out-own-of-2 : tie.Need-element-copy-out-own-of-2
-element-copy-out-own-of-2 c = search needs
+mul-c3 : tie.Need-mul-c3 Inv-loop μ-loop
+mul-c3 c = search (array-laws, c .before .before .before .before .loop .inv .few, c .before .before .before .loop-test .taken, needs)
 
-mul-own-of-2 : tie.Need-mul-own-of-2
-mul-own-of-2 c = search needs
+element-copy-out-c3 : tie.Need-element-copy-out-c3 Inv-loop μ-loop
+element-copy-out-c3 c = search (array-laws, c .before .before .before .before .loop .inv .few, c .before .before .before .loop-test .taken, needs)
 
-element-copy-out-own-of-3 : tie.Need-element-copy-out-own-of-3
-element-copy-out-own-of-3 c = search needs
+add-c4 : tie.Need-add-c4 Inv-loop μ-loop
+add-c4 c = search (array-laws, c .before .before .before .before .before .loop .inv .few, c .before .before .before .before .loop-test .taken, needs)
 
-own-of-requires : tie.Need-own-of-requires
-own-of-requires c κs = search needs
+mul-c4 : tie.Need-mul-c4 Inv-loop μ-loop
+mul-c4 c = search (array-laws, c .before .before .before .before .before .loop .inv .few, c .before .before .before .before .loop-test .taken, needs)
 
-around-of-requires : tie.Need-around-of-requires
-around-of-requires c κs = search needs
+element-copy-out-c4 : tie.Need-element-copy-out-c4 Inv-loop μ-loop
+element-copy-out-c4 c = search (array-laws, c .before .before .before .before .before .loop .inv .few, c .before .before .before .before .loop-test .taken, needs)
 
-mul-take-own : tie.Need-mul-take-own
-mul-take-own c = search needs
+add-c5 : tie.Need-add-c5 Inv-loop μ-loop
+add-c5 c = search (array-laws, c .before .before .before .before .before .before .loop .inv .few, c .before .before .before .before .before .loop-test .taken, needs)
 
-element-copy-out-take-own : tie.Need-element-copy-out-take-own
-element-copy-out-take-own c = search needs
+mul-c5 : tie.Need-mul-c5 Inv-loop μ-loop
+mul-c5 c = search (array-laws, c .before .before .before .before .before .before .loop .inv .few, c .before .before .before .before .before .loop-test .taken, needs)
 
-mul-take-own-2 : tie.Need-mul-take-own-2
-mul-take-own-2 c = search needs
+element-copy-out-c5 : tie.Need-element-copy-out-c5 Inv-loop μ-loop
+element-copy-out-c5 c = search (array-laws, c .before .before .before .before .before .before .loop .inv .few, c .before .before .before .before .before .loop-test .taken, needs)
 
-element-copy-out-take-own-2 : tie.Need-element-copy-out-take-own-2
-element-copy-out-take-own-2 c = search needs
+add-c6 : tie.Need-add-c6 Inv-loop μ-loop
+add-c6 c = search (array-laws, c .before .before .before .before .before .before .before .loop .inv .few, c .before .before .before .before .before .before .loop-test .taken, needs)
 
-take-own-requires : tie.Need-take-own-requires
-take-own-requires c κs =
-    let g = c .before .before .before .before .before .before .before .before .before .before .before .before .before .before .before .before .before .before .before .before .before .before .before .good in
-    let long : Long (c .before .before .before .before .before .before .before .before .before .before .before .before .before .before .before .before .before .before .before .before .before .before .before .args .t1) = record {
+mul-c6 : tie.Need-mul-c6 Inv-loop μ-loop
+mul-c6 c = search (array-laws, c .before .before .before .before .before .before .before .loop .inv .few, c .before .before .before .before .before .before .loop-test .taken, needs)
+
+element-copy-out-c6 : tie.Need-element-copy-out-c6 Inv-loop μ-loop
+element-copy-out-c6 c = search (array-laws, c .before .before .before .before .before .before .before .loop .inv .few, c .before .before .before .before .before .before .loop-test .taken, needs)
+
+add-c7 : tie.Need-add-c7 Inv-loop μ-loop
+add-c7 c = search (array-laws, c .before .before .before .before .before .before .before .before .loop .inv .few, c .before .before .before .before .before .before .before .loop-test .taken, needs)
+
+mul-c7 : tie.Need-mul-c7 Inv-loop μ-loop
+mul-c7 c = search (array-laws, c .before .before .before .before .before .before .before .before .loop .inv .few, c .before .before .before .before .before .before .before .loop-test .taken, needs)
+
+element-copy-out-c7 : tie.Need-element-copy-out-c7 Inv-loop μ-loop
+element-copy-out-c7 c = search (array-laws, c .before .before .before .before .before .before .before .before .loop .inv .few, c .before .before .before .before .before .before .before .loop-test .taken, needs)
+
+mul-held : tie.Need-mul-held Inv-loop μ-loop
+mul-held c = search (array-laws, c .before .before .before .before .before .before .before .before .before .loop .inv .few, c .before .before .before .before .before .before .before .before .loop-test .taken, needs)
+
+element-copy-out-held : tie.Need-element-copy-out-held Inv-loop μ-loop
+element-copy-out-held c = search (array-laws, c .before .before .before .before .before .before .before .before .before .loop .inv .few, c .before .before .before .before .before .before .before .before .loop-test .taken, needs)
+
+mul-list : tie.Need-mul-list Inv-loop μ-loop
+mul-list c = search (array-laws, c .before .before .before .before .before .before .before .before .before .before .loop .inv .few, c .before .before .before .before .before .before .before .before .before .loop-test .taken, needs)
+
+element-copy-out-list : tie.Need-element-copy-out-list Inv-loop μ-loop
+element-copy-out-list c = search (array-laws, c .before .before .before .before .before .before .before .before .before .before .loop .inv .few, c .before .before .before .before .before .before .before .before .before .loop-test .taken, needs)
+
+mul-job-fits : tie.Need-mul-job-fits Inv-loop μ-loop
+mul-job-fits c = search (array-laws, c .before .before .before .before .before .before .before .before .before .before .before .loop .inv .few, c .before .before .before .before .before .before .before .before .before .before .loop-test .taken, needs)
+
+element-copy-out-job-fits : tie.Need-element-copy-out-job-fits Inv-loop μ-loop
+element-copy-out-job-fits c = search (array-laws, c .before .before .before .before .before .before .before .before .before .before .before .loop .inv .few, c .before .before .before .before .before .before .before .before .before .before .loop-test .taken, needs)
+
+mul-job-fits-2 : tie.Need-mul-job-fits-2 Inv-loop μ-loop
+mul-job-fits-2 c = search (array-laws, c .before .before .before .before .before .before .before .before .before .before .before .before .loop .inv .few, c .before .before .before .before .before .before .before .before .before .before .before .loop-test .taken, needs)
+
+element-copy-out-job-fits-2 : tie.Need-element-copy-out-job-fits-2 Inv-loop μ-loop
+element-copy-out-job-fits-2 c = search (array-laws, c .before .before .before .before .before .before .before .before .before .before .before .before .loop .inv .few, c .before .before .before .before .before .before .before .before .before .before .before .loop-test .taken, needs)
+
+mul-job-fits-3 : tie.Need-mul-job-fits-3 Inv-loop μ-loop
+mul-job-fits-3 c = search (array-laws, c .before .before .before .before .before .before .before .before .before .before .before .before .before .loop .inv .few, c .before .before .before .before .before .before .before .before .before .before .before .before .loop-test .taken, needs)
+
+element-copy-out-job-fits-3 : tie.Need-element-copy-out-job-fits-3 Inv-loop μ-loop
+element-copy-out-job-fits-3 c = search (array-laws, c .before .before .before .before .before .before .before .before .before .before .before .before .before .loop .inv .few, c .before .before .before .before .before .before .before .before .before .before .before .before .loop-test .taken, needs)
+
+job-fits-requires : tie.Need-job-fits-requires Inv-loop μ-loop
+job-fits-requires c κs = search needs
+
+both-requires : tie.Need-both-requires Inv-loop μ-loop
+both-requires c κs = search needs
+
+add-k : tie.Need-add-k Inv-loop μ-loop
+add-k c = search (array-laws, c .before .before .before .before .before .before .before .before .before .before .before .before .before .before .before .before .loop .inv .few, c .before .before .before .before .before .before .before .before .before .before .before .before .before .before .before .loop-test .taken, needs)
+
+loop-less : tie.Need-loop-less Inv-loop μ-loop
+loop-less c = search (c .before .before .before .before .before .before .before .before .before .before .before .before .before .before .before .loop-test .taken, needs)
+
+loop-again : tie.Need-loop-again Inv-loop μ-loop
+loop-again c =
+    let c₁ = c .before in
+    let c₂ = c₁ .before .before .before .before .before .before .before .before .before .before .before .before .before .before in
+    let c₃ = c₂ .before in
+    test-on _ _ _ _ (c₃ .loop .inv) (c₂ .loop-test .taken) _ _ (c₁ .job-fits .ensures) (c .both .ensures)
+
+take-turn-requires : tie.Need-take-turn-requires Inv-loop μ-loop
+take-turn-requires c κs =
+    let g = c .before .before .before .good in
+    let long : Long (c .before .before .before .args .t1) = record {
       start = search (g, needs);
       states = search (array-laws, g, needs);
       status = search (array-laws, g, needs);
@@ -99,129 +156,59 @@ take-own-requires c κs =
       reads = search (array-laws, g, needs);
       checkpoints = search (array-laws, g, needs);
     } in
-    let c₁ = c .before .before .before .before .before in
-    let c₂ = c₁ .before .before .before .before in
-    let c₃ = c₂ .before .before .before .before .before .before in
-    let c₄ = c₃ .before .before .before in
-    let c₅ = c₄ .before .before in
-    let c₆ = c₅ .before .before in
-    let mine = sym (c₆ .is-foreign .ensures) ∙ c₅ .before .if1 .left in
-    let fit = sym (c₅ .block-fits .ensures) ∙ not-false _ (c₄ .before .if2 .left) in
-    ready _ _ mine fit long _ _ _ (c₄ .place-of .ensures .0) (c₃ .before .slot-of .ensures .0) (c₃ .slot-of2 .ensures .0) _ _ (c₂ .own-of .ensures)
-    (c₁ .around-of .ensures)
+    let c₁ = c .before in
+    (test-end _ _ _ _ (c₁ .loop .inv) (search (c .loop-test .left, needs)), long)
 
-mul-state : tie.Need-mul-state
-mul-state c = search (c .before .before .before .before .before .before .before .before .before .before .before .before .before .before .before .before .before .before .before .before .before .before .before .before .place-of .ensures .1, needs)
-
-element-set-from-state : tie.Need-element-set-from-state
-element-set-from-state c = search (c .before .before .before .before .before .before .before .before .before .before .before .before .before .before .before .before .before .before .before .before .before .before .before .before .place-of .ensures .1, needs)
-
-element-write-b : tie.Need-element-write-b
-element-write-b c = search (c .before .before .before .before .before .before .before .before .before .before .before .before .before .before .before .before .before .before .before .before .before .before .before .before .place-of .ensures .1, needs)
-
-mul-journal : tie.Need-mul-journal
-mul-journal c = search (c .before .before .before .before .before .before .before .before .before .before .before .before .before .before .before .before .before .before .before .before .before .before .before .before .place-of .ensures .1, needs)
-
-element-set-from-journal : tie.Need-element-set-from-journal
-element-set-from-journal c = search (c .before .before .before .before .before .before .before .before .before .before .before .before .before .before .before .before .before .before .before .before .before .before .before .before .place-of .ensures .1, needs)
-
-mul-versions : tie.Need-mul-versions
-mul-versions c = search (c .before .before .before .before .before .before .before .before .before .before .before .before .before .before .before .before .before .before .before .before .before .before .before .before .place-of .ensures .1, needs)
-
-element-set-from-versions : tie.Need-element-set-from-versions
-element-set-from-versions c = search (c .before .before .before .before .before .before .before .before .before .before .before .before .before .before .before .before .before .before .before .before .before .before .before .before .place-of .ensures .1, needs)
-
-mul-saved : tie.Need-mul-saved
-mul-saved c = search (c .before .before .before .before .before .before .before .before .before .before .before .before .before .before .before .before .before .before .before .before .before .before .slot-of .ensures .1, needs)
-
-element-set-from-saved : tie.Need-element-set-from-saved
-element-set-from-saved c = search (c .before .before .before .before .before .before .before .before .before .before .before .before .before .before .before .before .before .before .before .before .before .before .slot-of .ensures .1, needs)
-
-reads-after-requires : tie.Need-reads-after-requires
-reads-after-requires c κs =
-    let g = c .before .before .before .before .before .before .before .before .before .before .before .before .before .before .before .before .before .before .before .before .before .before .before .before .before .before .before .before .before .before .good in
-    let long : Long (c .before .before .before .before .before .before .before .before .before .before .before .before .before .before .before .before .before .before .before .before .before .before .before .before .before .before .before .before .before .before .args .t1) = record {
-      start = search (g, needs);
-      states = search (array-laws, g, needs);
-      status = search (array-laws, g, needs);
-      journals = search (array-laws, g, needs);
-      versions = search (array-laws, g, needs);
-      reads = search (array-laws, g, needs);
-      checkpoints = search (array-laws, g, needs);
-    } in
-    let c₁ = c .before .before .before .before .before .before in
-    let c₂ = c₁ .before .before .before .before .before .before in
-    let c₃ = c₂ .before .before .before .before in
-    let c₄ = c₃ .before .before .before .before .before .before in
-    let c₅ = c₄ .before .before .before in
-    let c₆ = c₅ .before .before in
-    let c₇ = c₆ .before .before in
-    let mine = sym (c₇ .is-foreign .ensures) ∙ c₆ .before .if1 .left in
-    let fit = sym (c₆ .block-fits .ensures) ∙ not-false _ (c₅ .before .if2 .left) in
-    may-mark _ _ mine fit long _ _ _ (c₅ .place-of .ensures .0) (c₄ .before .slot-of .ensures .0) (c₄ .slot-of2 .ensures .0) _ _ (c₃ .own-of .ensures)
-    (c₂ .around-of .ensures) _ (c₁ .take-own .ensures)
-
-returns-3 : tie.Need-returns-3
-returns-3 c =
-    let g = c .before .before .before .before .before .before .before .before .before .before .before .before .before .before .before .before .before .before .before .before .before .before .before .before .before .before .before .before .before .before .before .good in
-    let long : Long (c .before .before .before .before .before .before .before .before .before .before .before .before .before .before .before .before .before .before .before .before .before .before .before .before .before .before .before .before .before .before .before .args .t1) = record {
-      start = search (g, needs);
-      states = search (array-laws, g, needs);
-      status = search (array-laws, g, needs);
-      journals = search (array-laws, g, needs);
-      versions = search (array-laws, g, needs);
-      reads = search (array-laws, g, needs);
-      checkpoints = search (array-laws, g, needs);
-    } in
-    let c₁ = c .before .before .before .before .before .before .before in
-    let c₂ = c₁ .before .before .before .before .before .before in
-    let c₃ = c₂ .before .before .before .before in
-    let c₄ = c₃ .before .before .before .before .before .before in
-    let c₅ = c₄ .before .before .before in
-    let c₆ = c₅ .before .before in
-    let c₇ = c₆ .before .before in
-    let mine = sym (c₇ .is-foreign .ensures) ∙ c₆ .before .if1 .left in
-    let fit = sym (c₆ .block-fits .ensures) ∙ not-false _ (c₅ .before .if2 .left) in
-    stored-turn _ _ mine fit long _ _ _ (c₅ .place-of .ensures .0) (c₄ .before .slot-of .ensures .0) (c₄ .slot-of2 .ensures .0) _ _ (c₃ .own-of .ensures)
-    (c₂ .around-of .ensures) _ (c₁ .take-own .ensures) _ (c .reads-after .ensures)
+returns : tie.Need-returns Inv-loop μ-loop
+returns c = c .take-turn .ensures
 
 pub turn-spec : {M : Type 1} → statement M
 turn-spec =
     tie.close
     (tie.spec
-    is-foreign-requires
-    returns
-    block-fits-requires
-    returns-2
-    place-of-requires
-    mul-list
-    element-copy-out-list
-    slot-of-requires
-    slot-of-requires-2
-    mul-here
-    element-copy-out-here
+    Inv-loop
+    μ-loop
+    jobs-in-requires
+    loop-holds
+    cast-n
+    mul-at
+    mul-c0
+    element-copy-out-c0
+    add-c1
+    mul-c1
+    element-copy-out-c1
+    add-c2
+    mul-c2
+    element-copy-out-c2
+    add-c3
+    mul-c3
+    element-copy-out-c3
+    add-c4
+    mul-c4
+    element-copy-out-c4
+    add-c5
+    mul-c5
+    element-copy-out-c5
+    add-c6
+    mul-c6
+    element-copy-out-c6
+    add-c7
+    mul-c7
+    element-copy-out-c7
     mul-held
     element-copy-out-held
-    mul-own-of
-    element-copy-out-own-of
-    element-copy-out-own-of-2
-    mul-own-of-2
-    element-copy-out-own-of-3
-    own-of-requires
-    around-of-requires
-    mul-take-own
-    element-copy-out-take-own
-    mul-take-own-2
-    element-copy-out-take-own-2
-    take-own-requires
-    mul-state
-    element-set-from-state
-    element-write-b
-    mul-journal
-    element-set-from-journal
-    mul-versions
-    element-set-from-versions
-    mul-saved
-    element-set-from-saved
-    reads-after-requires
-    returns-3)
+    mul-list
+    element-copy-out-list
+    mul-job-fits
+    element-copy-out-job-fits
+    mul-job-fits-2
+    element-copy-out-job-fits-2
+    mul-job-fits-3
+    element-copy-out-job-fits-3
+    job-fits-requires
+    both-requires
+    add-k
+    loop-less
+    loop-again
+    take-turn-requires
+    returns)

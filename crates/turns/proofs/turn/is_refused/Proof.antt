@@ -2,8 +2,8 @@
 -- and 20 a block.
 use borrow.Author.Needs.{needs}
 use Rattle.turns.proofs.Laws.Store.{refused-laws}
-use Rattle.turns.proofs.many.is_refused.Statement.{statement}
-use Rattle.turns.proofs.many.is_refused.Tie as tie
+use Rattle.turns.proofs.turn.is_refused.Statement.{statement}
+use Rattle.turns.proofs.turn.is_refused.Tie as tie
 
 is-foreign-requires : tie.Need-is-foreign-requires
 is-foreign-requires c κs = search (refused-laws, needs)
