@@ -1,20 +1,15 @@
 -- What a field whose frame passed tells: it is whole, a job is still allowed, and its length is a sound one.
-use mathlib.Core.Path.{_≡_, refl, ap}
+use mathlib.Core.Path.{_≡_}
 use mathlib.Core.Bool.{not, _||_}
 use mathlib.Core.List.{List}
-use Prim.Native.Nat.{ℕ, zero, suc, _+_, _/_, _%_, _≤_, _<_}
+use Prim.Native.Nat.{ℕ, _+_, _%_, _≤_, _<_}
 use native.Mathlib.Omega.{arith}
 use lib.Dec.{eqb, ltb}
-use lib.ListN.{length, drop}
+use lib.ListN.{length}
 use borrow.Author.Tests.{not-false, ltb-false, eqb-false, eqb-true}
 use Rattle.machine.specs.Passing.{unless-sound, or-none}
 use Rattle.machine.specs.Verdict.{sound}
-use Rattle.machine.specs.Paper.{tag, size, instructions, frameOf}
-
-pub length-instructions : (n : ℕ) (bs : List ℕ) → length (instructions n bs) ≡ n
-unfolding instructions
-length-instructions zero bs = refl
-length-instructions (suc n) bs = ap suc (length-instructions n (drop 9 bs))
+use Rattle.machine.specs.Paper.{tag, size, frameOf}
 
 pub record Framed (more : ℕ) (bs : List ℕ) : Type 0 where
   pub whole : 3 + size bs ≤ length bs

@@ -37,10 +37,11 @@ use Rattle.turns.specs.declared.own.Around.{Around}
 use Rattle.turns.specs.declared.own.Move.{Move}
 
 -- ---- what a rule makes of a job's parts
+-- a move after which nobody is marked
 abbrev pub still : Word → Own → Move
 still w o = record { own = o; word = w; marks = false }
 
--- .. where it may change what is public, so that the higher jobs are to be marked
+-- one that may change what is public, so that the higher jobs are to be marked
 abbrev pub publishing : Word → Own → Move
 publishing w o = record { own = o; word = w; marks = true }
 
@@ -193,6 +194,7 @@ pub record Ready (o : Own) (seen : Around) (t : ℕ) : Type 0 where
   pub below : ShowingBelow (seen .journals) (seen .versions) (t - 1)
 
 -- ---- a turn that may be refused
+-- the step that the job would take, where it is not
 pub record StepsIf (refused : Bool) (code : Job) (s : State) (done : Stepped) : Type 0 where
   pub cells : InCells done
   pub steps : refused ≡ false → StepsIn (codeOf code) s done

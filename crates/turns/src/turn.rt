@@ -49,7 +49,7 @@ pub struct Turned {
 }
 
 // Whether a ticket is none of the block's.
-pub(crate) fn is_foreign(t: Ticket, count: u8) -> bool
+fn is_foreign(t: Ticket, count: u8) -> bool
     ensures { λ r. ⌜ r ≡ foreign count (t .0) ⌝ }
 {
     if t.0 == 0 {

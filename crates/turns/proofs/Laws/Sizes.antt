@@ -39,27 +39,19 @@ module _ (b x : Bool) (e : b ≡ x) where
   held t = sym e ∙ not-false b t
 
 -- ---- place by place
-passes-one : (f : ℕ → Bool) (k m : ℕ) → f k && passes f (suc k) m ≡ passes f k (suc m)
+passes-first : (f : ℕ → Bool) (n k : ℕ) → k < n → f k && passes f (suc k) (n - suc k) ≡ passes f k (n - k)
 unfolding passes
-passes-one f k m = refl
+passes-first f n k l = one (n - suc k) ∙ ap (passes f k) (let w : suc (n - suc k) ≡ n - k = omega arith in w)
+  where
+    one : (m : ℕ) → f k && passes f (suc k) m ≡ passes f k (suc m)
+    one m = refl
 
 module _ (f : ℕ → Bool) (n k : ℕ) (R : Bool) (q : passes f k (n - k) ≡ R) where
-  less : k < n → suc (n - suc k) ≡ n - k
-  less l = omega arith
-
   pub passes-stop : k < n → f k ≡ false → false ≡ R
-  unfolding passes
-  passes-stop l e = one (n - suc k) ∙ ap (passes f k) (less l) ∙ q
-    where
-      one : (m : ℕ) → false ≡ passes f k (suc m)
-      one m = rw e refl
+  passes-stop l e = (rw e at (passes-first f n k l)) ∙ q
 
   pub passes-on : k < n → f k ≡ true → passes f (k + 1) (n - (k + 1)) ≡ R
-  unfolding passes
-  passes-on l e = rw (add-one k) (one (n - suc k) ∙ ap (passes f k) (less l) ∙ q)
-    where
-      one : (m : ℕ) → passes f (suc k) m ≡ passes f k (suc m)
-      one m = rw e refl
+  passes-on l e = rw (add-one k) ((rw e at (passes-first f n k l)) ∙ q)
 
   pub passes-end : n ≤ k → true ≡ R
   unfolding passes
@@ -319,10 +311,7 @@ module _ (b : Block) where
         → here ≡ jobWithin (getD (b .jobs) k noJob) (getD (b .states) k noState) (getD (b .journals) k noJournal) (getD (b .versions) k noVersions) (getD (b .reads) k noReads) (listed (eight (b .checkpoints) (8 * k)))
         → next ≡ x && here → Testing b n (k + 1) next
     test-on l here next eh en =
-        record { few = g .few; low = omega (arith, l); rest = rw (en, eh, here-is k, add-one k) (and-assoc x (jobWithinAt b k) (passes (jobWithinAt b) (suc k) (n - suc k)) ∙ ap (λ (y : Bool). x && y) one ∙ g .rest) }
-      where
-        one : jobWithinAt b k && passes (jobWithinAt b) (suc k) (n - suc k) ≡ passes (jobWithinAt b) k (n - k)
-        one = passes-one (jobWithinAt b) k (n - suc k) ∙ ap (passes (jobWithinAt b) k) (let w : suc (n - suc k) ≡ n - k = omega (arith, l) in w)
+        record { few = g .few; low = omega (arith, l); rest = rw (en, eh, here-is k, add-one k) (and-assoc x (jobWithinAt b k) (passes (jobWithinAt b) (suc k) (n - suc k)) ∙ ap (λ (y : Bool). x && y) (passes-first (jobWithinAt b) n k l) ∙ g .rest) }
 
     pub test-end : n ≤ k → x ≡ blockFits limits box (blockOf b)
     test-end l = sym (and-true x) ∙ ap (λ (y : Bool). x && y) (passes-end (jobWithinAt b) n k _ refl l) ∙ g .rest

@@ -33,6 +33,7 @@ use Rattle.turns.specs.declared.own.Around.{Around}
 use Rattle.turns.specs.declared.own.Move.{Move}
 use Rattle.turns.specs.declared.turn.Word.{Word}
 use Rattle.turns.specs.declared.turn.Word.the-variants.{BadTicket, Stuck}
+use Rattle.turns.proofs.Laws.Alone.{not-both}
 use Rattle.turns.proofs.Laws.Words.{inside-of}
 use Rattle.turns.proofs.Laws.Reading.{below-showing}
 use Rattle.turns.proofs.Laws.Turn.{whole-fit, turn-foreign, turn-misfit, turn-taken}
@@ -184,25 +185,22 @@ refusal-misfit x q = rw q refl
 
 pub ruleset refusal-laws = (refusal-ticket, refusal-misfit)
 
-not-true-false : {A : Type 0} (x : Bool) → x ≡ true → x ≡ false → A
-not-true-false x t f = absurd (let z : _≡_ {A = ℕ} 0 1 = cc in omega arith)
-
 module _ (refused : Bool) where
   pub refused-place : (t : ℕ) → refused ≡ true → (refused ≡ false → 0 ≡ t - 1) × (0 < 16)
-  refused-place t q = (not-true-false refused q, omega arith)
+  refused-place t q = ((λ z. not-both (sym z ∙ q)), omega arith)
 
   pub refused-step : (j : Job) (s : State) → refused ≡ true → StepsIf refused j s (record { act = StuckAct; state = s })
-  refused-step j s q = record { cells = record { low = λ c e. absurd (let z : _≡_ {A = ℕ} 0 1 = cc in omega arith) }; steps = not-true-false refused q }
+  refused-step j s q = record { cells = record { low = λ c e. absurd (let z : _≡_ {A = ℕ} 0 1 = cc in omega arith) }; steps = λ z. not-both (sym z ∙ q) }
 
   pub taken-step : (j : Job) (s : State) (r : Stepped) → StepsIn (codeOf j) s r → StepsIf refused j s r
   taken-step j s r h = record { cells = steps-cells (codeOf j) s r h; steps = λ q. h }
 
   module _ (w : Word) (o : Own) (Q : Block → ℕ → Type 0) (m : Move) where
     pub refused-moves : refused ≡ true → m ≡ still w o → MovesIf refused w o Q m
-    refused-moves q e = record { stays = λ z. e; moves = not-true-false refused q }
+    refused-moves q e = record { stays = λ z. e; moves = λ z. not-both (sym z ∙ q) }
 
     pub taken-moves : refused ≡ false → Moves o Q moving m → MovesIf refused w o Q m
-    taken-moves q h = record { stays = λ z. not-true-false refused z q; moves = λ z. h }
+    taken-moves q h = record { stays = λ z. not-both (sym q ∙ z); moves = λ z. h }
 
 -- the parts of a refused turn are stored as they were
 pub stored-refused : (b : Block) (t i s : ℕ) (fits : Bool) → fits ≡ E.blockFits limits box (blockOf b) → (foreign (b .count) t || not fits) ≡ true
@@ -242,7 +240,7 @@ module _ (b : Block) (t : ℕ) (fits : Bool) (ef : fits ≡ E.blockFits limits b
       may-mark-if e old new eold enew = go refused refl
         where
           go : (x : Bool) → refused ≡ x → (b .count ≤ 16) × ListsFit (set (b .reads) i (m .own .list)) (b .count) × Shown old × Shown new
-          go true q = absurd (let quiet : m .marks ≡ false = rw (moves .stays q) refl in let z : _≡_ {A = ℕ} 0 1 = cc in omega arith)
+          go true q = let quiet : m .marks ≡ false = rw (moves .stays q) refl in not-both (sym quiet ∙ e)
           go false q = may-mark b t (mine-if q) (fit-if q) long i s k (ei q) es ek own around eo ea step (steps .steps q) c asks m (moves .moves q) e old new eold enew
 
       pub turned-if : (ls : List Reads) → ls ≡ markedBy (m .marks) (set (b .reads) i (m .own .list)) (b .count) (showsOf own) (showsOf (m .own)) t

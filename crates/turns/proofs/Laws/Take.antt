@@ -39,6 +39,7 @@ use Rattle.turns.specs.declared.own.Own.{Own}
 use Rattle.turns.specs.declared.own.Around.{Around}
 use Rattle.turns.specs.declared.own.Move.{Move}
 use Rattle.turns.proofs.Laws.Moves.{back-shown}
+use Rattle.turns.proofs.Laws.Alone.{not-both}
 use Rattle.turns.proofs.Laws.Words.{inside-of}
 use Rattle.turns.proofs.Laws.Reading.{outside-full, outside-some, read-else, read-held, write-full, write-some}
 use Rattle.turns.proofs.Laws.Instruct.{abandon-showing, step-abandon, step-nothing, step-read, step-reading, step-stop, step-stuck, step-write, stop-showing}
@@ -47,11 +48,7 @@ use Rattle.turns.proofs.Laws.Placed as P
 
 -- a move that does not mark
 quiet-done : (b : Block) (t : ℕ) (p : E.Moved Running) (x : Word) (o : Own) → Did b (t - 1) p (turnedBy b t (still x o)) → Done b t p (still x o)
-quiet-done b t p x o d = record {
-  did = d;
-  shown = λ e. absurd (let z : _≡_ {A = ℕ} 0 1 = cc in omega arith);
-  few = λ e. absurd (let z : _≡_ {A = ℕ} 0 1 = cc in omega arith);
-}
+quiet-done b t p x o d = record { did = d; shown = not-both; few = not-both }
 
 -- a turn that leaves the block
 still-done : (b : Block) (t : ℕ) (p : E.Moved Running) (x : Word) → Did b (t - 1) p (record { word = x; block = b }) → Done b t p (still x (ownOf b (t - 1)))
