@@ -59,13 +59,11 @@ enum garvolish_refusal {
 /* ---- the block in work. It may be copied, stored and altered; what is past its sizes is answered by GARVOLISH_MISFIT.
  * Two blocks that stand for the same may differ in padding and in entries past a count: compare them by their parts. */
 
-struct garvolish_instruction {
-    uint8_t code;
-    uint64_t operand;
-};
-
+/* The instructions of a job, place by place. The operand of a PUSH stands in pushed, every other in arguments. */
 struct garvolish_job {
-    struct garvolish_instruction code[GARVOLISH_INSTRUCTIONS];
+    uint8_t codes[GARVOLISH_INSTRUCTIONS];
+    uint8_t arguments[GARVOLISH_INSTRUCTIONS];
+    uint64_t pushed[GARVOLISH_INSTRUCTIONS];
     uint8_t size;
 };
 
@@ -131,7 +129,7 @@ struct garvolish_block {
     struct garvolish_checkpoint checkpoints[GARVOLISH_JOBS * GARVOLISH_FEW];
 };
 
-#define GARVOLISH_BLOCK_SIZE 44840
+#define GARVOLISH_BLOCK_SIZE 38696
 #define GARVOLISH_BLOCK_ALIGNMENT 8
 
 #if defined(__cplusplus)

@@ -9,8 +9,13 @@ enum code { STOP = 0, PUSH = 2, READ = 10, WRITE = 11 };
 
 enum { JOB_TAG = 0x10, HEAD_BYTES = 3, INSTRUCTION_BYTES = 9, OPERAND_BYTES = 8 };
 
+struct instruction {
+    uint8_t code;
+    uint64_t operand;
+};
+
 /* Writes 7 to cell 5. */
-static const struct garvolish_instruction job_1[] = {
+static const struct instruction job_1[] = {
     {PUSH, 7},
     {PUSH, 5},
     {WRITE, 0},
@@ -18,7 +23,7 @@ static const struct garvolish_instruction job_1[] = {
 };
 
 /* Copies cell 5 to cell 6. */
-static const struct garvolish_instruction job_2[] = {
+static const struct instruction job_2[] = {
     {PUSH, 5},
     {READ, 0},
     {PUSH, 6},
@@ -31,7 +36,7 @@ enum { SIZE_1 = sizeof job_1 / sizeof job_1[0], SIZE_2 = sizeof job_2 / sizeof j
 static const uint8_t tickets[] = {2, 2, 1, 1, 1, 1, 2, 2, 2, 2, 2, 2, 1, 2, 2, 3};
 
 /* Puts a job's field where `to` points and answers where the next field begins. */
-static uint8_t *put_job(uint8_t *to, const struct garvolish_instruction *job, size_t size)
+static uint8_t *put_job(uint8_t *to, const struct instruction *job, size_t size)
 {
     size_t length = size * INSTRUCTION_BYTES;
     *to++ = JOB_TAG;

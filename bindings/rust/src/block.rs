@@ -9,7 +9,7 @@ use std::fmt;
 /// A block in work: a start table, and the jobs of a paper with what they have done so far.
 #[derive(Clone)]
 pub struct Block {
-    /// Boxed, so that handing a block on does not copy its 44,840 bytes.
+    /// Boxed, so that handing a block on does not copy its 38,696 bytes.
     pub(crate) work: Box<layout::Block>,
 }
 

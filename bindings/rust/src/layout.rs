@@ -7,17 +7,13 @@ const STACK: usize = 16;
 /// Reads and writes of one job.
 pub const FEW: usize = 8;
 
-#[repr(C)]
-#[derive(Clone, Copy, PartialEq, Eq)]
-pub struct Instruction {
-    pub code: u8,
-    pub operand: u64,
-}
-
+/// The instructions of a job, place by place. The operand of a PUSH stands in `pushed`, every other in `arguments`.
 #[repr(C)]
 #[derive(Clone, Copy, PartialEq, Eq)]
 pub struct Job {
-    pub code: [Instruction; INSTRUCTIONS],
+    pub codes: [u8; INSTRUCTIONS],
+    pub arguments: [u8; INSTRUCTIONS],
+    pub pushed: [u64; INSTRUCTIONS],
     pub size: u8,
 }
 
@@ -104,8 +100,7 @@ pub struct Block {
 #[cfg(target_arch = "x86_64")]
 const _: () = {
     use std::mem::{align_of, size_of};
-    assert!(size_of::<Instruction>() == 16 && align_of::<Instruction>() == 8);
-    assert!(size_of::<Job>() == 1032 && align_of::<Job>() == 8);
+    assert!(size_of::<Job>() == 648 && align_of::<Job>() == 8);
     assert!(size_of::<Stack>() == 136 && align_of::<Stack>() == 8);
     assert!(size_of::<State>() == 144 && align_of::<State>() == 8);
     assert!(size_of::<Entry>() == 16 && align_of::<Entry>() == 8);
@@ -114,5 +109,5 @@ const _: () = {
     assert!(size_of::<Read>() == 16 && align_of::<Read>() == 8);
     assert!(size_of::<Reads>() == 136 && align_of::<Reads>() == 8);
     assert!(size_of::<Checkpoint>() == 152 && align_of::<Checkpoint>() == 8);
-    assert!(size_of::<Block>() == 44840 && align_of::<Block>() == 8);
+    assert!(size_of::<Block>() == 38696 && align_of::<Block>() == 8);
 };

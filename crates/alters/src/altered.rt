@@ -1,12 +1,12 @@
 // A block in work with one thing altered. Job k has ticket k + 1, and its checkpoints stand from 8 * k on.
 use machine::counts::Cell;
 use machine::counts::Ticket;
-use machine::instruction::Instruction;
 use machine::job::Job;
 use machine::job::State;
 use turns::block::Block;
 use turns::block::Checkpoint;
 use turns::block::Entry;
+use turns::block::Program;
 use turns::block::Read;
 ghost use Prim.Native.Nat.{_<_};
 
@@ -60,23 +60,30 @@ pub(crate) fn with_size(b: Block, k: usize, size: u8) -> Block
 pub(crate) fn with_stops(b: Block, k: usize, size: u8) -> Block
     requires { ⌜ k < 16 ⌝ }
 {
-    let stop = Instruction {
-        code: Instruction::STOP,
-        operand: 0,
-    };
     let mut r = b;
-    r.jobs[k] = Job {
-        code: [stop; 64],
+    r.jobs[k] = Program {
+        codes: [0; 64],
+        arguments: [0; 64],
+        pushed: [0; 64],
         size: size,
     };
     r
 }
 
-pub(crate) fn with_instruction(b: Block, k: usize, place: usize, i: Instruction) -> Block
+pub(crate) fn with_instruction(
+    b: Block,
+    k: usize,
+    place: usize,
+    code: u8,
+    argument: u8,
+    pushed: u64,
+) -> Block
     requires { ⌜ (k < 16) × (place < 64) ⌝ }
 {
     let mut j = b.jobs[k];
-    j.code[place] = i;
+    j.codes[place] = code;
+    j.arguments[place] = argument;
+    j.pushed[place] = pushed;
     let mut r = b;
     r.jobs[k] = j;
     r

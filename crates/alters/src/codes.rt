@@ -7,17 +7,32 @@ use machine::instruction::Instruction;
 use turns::block::Block;
 ghost use Prim.Native.Nat.{_<_};
 
-fn try_at(b: Block, place: u8, code: u8, operand: u64)
-    requires { ⌜ place < 64 ⌝ }
-{
-    let i = Instruction {
-        code: code,
-        operand: operand,
-    };
+fn say_at(code: u8, operand: u64, place: u8) {
     say_number(b"code ", code as u64);
     say_number(b" operand ", operand);
     say_number(b" at place ", place as u64);
-    tell(b"", with_instruction(b, 1, place as usize, i), 2);
+}
+
+// What stands where a PUSH has its operand is none of another's.
+fn try_at(b: Block, place: u8, code: u8, argument: u8)
+    requires { ⌜ place < 64 ⌝ }
+{
+    say_at(code, argument as u64, place);
+    tell(
+        b"",
+        with_instruction(b, 1, place as usize, code, argument, 18446744073709551615),
+        2,
+    );
+}
+
+// And what stands where another has its operand is none of a PUSH's.
+fn try_push(b: Block, operand: u64) {
+    say_at(Instruction::PUSH, operand, 1);
+    tell(
+        b"",
+        with_instruction(b, 1, 1, Instruction::PUSH, 255, operand),
+        2,
+    );
 }
 
 // The operand is 0.
@@ -67,8 +82,8 @@ fn try_unknown(b: Block) {
 
 pub(crate) fn try_codes(b: Block) {
     try_unknown(b);
-    try_at(b, 1, Instruction::PUSH, 0);
-    try_at(b, 1, Instruction::PUSH, 18446744073709551615);
+    try_push(b, 0);
+    try_push(b, 18446744073709551615);
     try_depth(b, Instruction::DUP);
     try_depth(b, Instruction::SWAP);
     try_jump(b, Instruction::JUMP);

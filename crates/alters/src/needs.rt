@@ -14,15 +14,12 @@ use machine::instruction::Instruction;
 use turns::block::Block;
 
 // Ticket 1 at an instruction, with a stack of so many.
-fn try_need(b: Block, code: u8, operand: u64, height: u8) {
-    let i = Instruction {
-        code: code,
-        operand: operand,
-    };
+fn try_need(b: Block, code: u8, operand: u8, height: u8) {
     say_number(b"at code ", code as u64);
-    say_number(b" operand ", operand);
+    say_number(b" operand ", operand as u64);
     say_number(b" with a stack of ", height as u64);
-    tell(b"", at_height(with_instruction(b, 0, 2, i), 0, height), 1);
+    let at = with_instruction(b, 0, 2, code, operand, operand as u64);
+    tell(b"", at_height(at, 0, height), 1);
 }
 
 fn try_no_needs(b: Block) {
@@ -31,7 +28,7 @@ fn try_no_needs(b: Block) {
     try_need(b, Instruction::JUMP, 3, 0);
 }
 
-fn try_one_entry(b: Block, code: u8, operand: u64) {
+fn try_one_entry(b: Block, code: u8, operand: u8) {
     try_need(b, code, operand, 0);
     try_need(b, code, operand, 1);
 }

@@ -1,30 +1,26 @@
 // Whether two blocks in work are the same: every field, entry by entry, also past the counts.
-use machine::instruction::Instruction;
-use machine::job::Job;
 use machine::job::Stack;
 use machine::job::State;
 use turns::block::Block;
 use turns::block::Checkpoint;
 use turns::block::Entry;
 use turns::block::Journal;
+use turns::block::Program;
 use turns::block::Read;
 use turns::block::Reads;
 use turns::block::Versions;
 ghost use Prim.Native.Nat.{_<_};
 
-fn same_instruction(a: Instruction, b: Instruction) -> bool {
-    if a.code != b.code {
-        return false;
-    }
-    a.operand == b.operand
-}
-
-fn same_job(a: Job, b: Job) -> bool {
+fn same_job(a: Program, b: Program) -> bool {
     let mut k: usize = 0;
     while k < 64 {
-        let x = a.code[k];
-        let y = b.code[k];
-        if !same_instruction(x, y) {
+        if a.codes[k] != b.codes[k] {
+            return false;
+        }
+        if a.arguments[k] != b.arguments[k] {
+            return false;
+        }
+        if a.pushed[k] != b.pushed[k] {
             return false;
         }
         k = k + 1;

@@ -8,12 +8,13 @@ use Rattle.machine.specs.declared.paper.Field.{Field}
 use Rattle.machine.specs.declared.verdict.Fault.{Fault}
 use Rattle.turns.specs.Open.{openingOf, Opens}
 use Rattle.turns.specs.SerialRun.{Serves}
-use Rattle.turns.specs.Turn.{wordOf, Turns}
+use Rattle.turns.specs.Turn.{wordOf}
+use Rattle.turns.specs.Change.{changed, Changes}
 use Rattle.turns.specs.declared.block.Block.{Block}
 use Rattle.turns.specs.declared.open.Opened.{Opened}
 use Rattle.turns.specs.declared.open.Opening.{Opening}
 use Rattle.turns.specs.declared.open.Opening.the-variants.{Accepted, WrongTable, Refused}
-use Rattle.turns.specs.declared.turn.Turned.{Turned}
+use Rattle.turns.specs.declared.turn.Change.{Change}
 use Rattle.garvolish.specs.Numbers.{wordNumber, packed, TurnsTo, OpensTo, ServesTo}
 
 -- an opening's number
@@ -32,8 +33,8 @@ module _ (o : Opening) where
 
 pub ruleset opening-laws = (number-accepted, number-wrong, number-refused)
 
-pub turned-to : (b : Block) (t n : ℕ) (r : Turned) → Turns b t r → n ≡ wordNumber (wordOf (r .word)) → TurnsTo b t n (r .block)
-turned-to b t n r h e = record { number = e ∙ ap wordNumber (h .word); block = h .block; left = h .left }
+pub turned-to : (b : Block) (t n : ℕ) (c : Change) → Changes b t c → n ≡ wordNumber (wordOf (c .word)) → TurnsTo b t n (changed b c)
+turned-to b t n c h e = record { number = e ∙ ap wordNumber (h .turns .word); block = h .turns .block; left = h .turns .left }
 
 pub opened-to : (start paper : List ℕ) (n : ℕ) (r : Opened) → Opens start paper r → n ≡ packed (openingOf (r .answer)) → OpensTo start paper n (r .block)
 opened-to start paper n r h e = record { number = e ∙ ap packed (h .answer); block = h .block }

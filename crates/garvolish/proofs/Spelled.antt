@@ -1,8 +1,11 @@
 -- The machine values and types of a block and of a `Numbered`, which the walks of the functions on `&mut Block` share.
 use mathlib.Core.Path.{_≡_, refl, ap}
+use Prim.Native.Nat.{ℕ}
+use mathlib.Core.Option.{Option, none, some}
 use mathlib.Core.List.{[], _∷_}
 use mir.Syntax.{Ty, Sym, tyInt, tyBool, tyFloat, tyPtr, tyRef, tyArray, tyUnit, tyStruct, tyEnum, tyNamed, tcons, tnil, w32}
 use mir.Val.{Val, vint, vstruct, vcons, vnil}
+use prog.Memory.{fieldOf}
 use denote.Laws.{Is}
 use denote.Builtin.{u32}
 use denote.Steps.{only}
@@ -44,6 +47,14 @@ nameOf (tyNamed h) = []
 -- its machine type, likewise: a proof that takes it apart then meets the block's type by name, and need not spell it
 abbrev pub numberedTy : Ty
 numberedTy = tyStruct (nameOf R′.mir) (tcons T′.mir (tcons (tyInt w32) tnil))
+
+-- where a field lies in its struct
+abbrev pub offset : Option (Ty × ℕ) → ℕ
+offset none = 0
+offset (some x) = x .1
+
+abbrev pub in-numbered : ℕ → ℕ
+in-numbered k = offset (fieldOf numberedTy k)
 
 pub numbered-is : R′.mir ≡ numberedTy
 unfolding nameOf

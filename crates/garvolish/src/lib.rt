@@ -8,7 +8,7 @@ use crate::number::settled_number;
 use crate::number::take_number;
 use machine::counts::Ticket;
 use turns::block::Block;
-use turns::turn::turn;
+use turns::turn::change_of;
 ghost use Rattle.garvolish.specs.Numbers.{TurnsTo, TakesTo, OpensTo, SettlesTo, ServesTo};
 
 // The block becomes a paper's, every job fresh; or a refusal, and then a block with no jobs and an all-zero table.
@@ -21,14 +21,21 @@ pub extern "C" fn garvolish_open(block: &mut Block, start: &[u64], paper: &[u8])
     r.number
 }
 
-// One turn of a ticket, in the caller's own block.
+// One turn of a ticket, in the caller's own block: what the turn changes is stored where it stands.
 #[no_mangle]
 pub extern "C" fn garvolish_turn(block: &mut Block, ticket: u8) -> u32
     ensures { λ r. ⌜ TurnsTo (now (block .entry)) ticket r (now (block .exit)) ⌝ }
 {
-    let r = turn(*block, Ticket(ticket));
-    *block = r.block;
-    number_of_word(r.word)
+    let c = change_of(*block, Ticket(ticket));
+    let i = c.place;
+    let slot = c.slot;
+    block.states[i] = c.state;
+    block.status[i] = c.status;
+    block.journals[i] = c.journal;
+    block.versions[i] = c.versions;
+    block.reads = c.reads;
+    block.checkpoints[slot] = c.saved;
+    number_of_word(c.word)
 }
 
 // The turns of a list of tickets, in the caller's own block, and a byte for each; the sizes are tested once.

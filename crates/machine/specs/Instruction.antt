@@ -12,6 +12,9 @@ STOP = 0
 abbrev pub ABANDON : ℕ
 ABANDON = 1
 
+abbrev pub PUSH : ℕ
+PUSH = 2
+
 abbrev pub SWAP : ℕ
 SWAP = 5
 

@@ -17,7 +17,10 @@ pub mod Turn
 pub mod Placed
 pub mod Take
 pub mod Store
+pub mod Program
 pub mod Open
 pub mod Settled
+pub mod Tests
+pub mod Code
 pub mod Sizes
 pub mod Many

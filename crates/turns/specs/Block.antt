@@ -6,9 +6,10 @@ use Rattle.theory.specs.Lists.{tab}
 use Rattle.theory.specs.Engine as E
 use Rattle.theory.specs.Engine.{running, ended, final}
 use Rattle.machine.specs.Machine.{Running}
-use Rattle.machine.specs.View.{stateOf, codeOf, noJob}
+use Rattle.machine.specs.View.{stateOf}
 use Rattle.machine.specs.declared.instruction.Instruction.{Instruction}
 use Rattle.machine.specs.declared.job.State.{State}
+use Rattle.turns.specs.Program.{noProgram, programOf}
 use Rattle.turns.specs.View.{journalOf, versionsOf, markOf, noJournal, noVersions, noRead, noReads}
 use Rattle.turns.specs.declared.block.Checkpoint.{Checkpoint}
 use Rattle.turns.specs.declared.block.Read.{Read}
@@ -42,7 +43,7 @@ readsOf is rs cs k = tab (rs .size) (λ i. readOf is (getD (rs .reads) i noRead)
 
 -- the instructions of the job at place k
 abbrev pub codeAt : Block → ℕ → List Instruction
-codeAt b k = codeOf (getD (b .jobs) k noJob)
+codeAt b k = programOf (getD (b .jobs) k noProgram)
 
 -- the job at place k
 unfoldable pub jobOf : Block → ℕ → E.Job Running

@@ -13,24 +13,23 @@ use Rattle.theory.specs.Engine as E
 use Rattle.theory.specs.Engine.{blockFits}
 use Rattle.theory.specs.ReadSizes.{both}
 use Rattle.machine.specs.Limits.{LONGEST, ROOM, FEW, JOBS, CELLS}
-use Rattle.machine.specs.View.{noJob}
-use Rattle.machine.specs.declared.job.Job.{Job}
-use Rattle.machine.specs.declared.job.State.{State}
 use Rattle.turns.specs.Box.{limits, box}
+use Rattle.turns.specs.Program.{noProgram}
 use Rattle.turns.specs.Block.{noState, noCheckpoint, blockOf}
 use Rattle.turns.specs.View.{noEntry, Showing, placeAt, place-low, place-past, markOf, noJournal, noVersions, noRead, noReads}
-use Rattle.turns.specs.Sizes.{passes, codeWithin, standsIn, journalWithin, versionWithinAt, versionsWithin, readWithin, risesFrom, readsWithin, markWithin, jobWithin, jobWithinAt, block-is, entryWithin, entryWithinAt}
+use Rattle.turns.specs.Sizes.{passes, codeWithin, keptOf, standsIn, journalWithin, versionWithinAt, versionsWithin, readWithin, risesFrom, readsWithin, markWithin, jobWithin, jobWithinAt, block-is, entryWithin, entryWithinAt}
 use Rattle.turns.specs.declared.block.Journal.{Journal}
 use Rattle.turns.specs.declared.block.Versions.{Versions}
 use Rattle.turns.specs.declared.block.Read.{Read}
 use Rattle.turns.specs.declared.block.Reads.{Reads}
-use Rattle.turns.specs.declared.block.Checkpoint.{Checkpoint}
+use Rattle.turns.specs.declared.block.Program.{Program}
 use Rattle.turns.specs.declared.block.Block.{Block}
+use Rattle.turns.specs.declared.sizes.Kept.{Kept}
 
 -- the job at place k: its state, its journal and versions, its reads, and for each listed read the checkpoint to go back to
 pub record Fit (b : Block) (k : ℕ) : Type 0 where
-  pub code : getD (b .jobs) k noJob .size ≤ 64
-  pub place : getD (b .states) k noState .place .0 < getD (b .jobs) k noJob .size
+  pub code : getD (b .jobs) k noProgram .size ≤ 64
+  pub place : getD (b .states) k noState .place .0 < getD (b .jobs) k noProgram .size
   pub journal : getD (b .journals) k noJournal .size ≤ 8
   pub cells : (i : ℕ) → i < getD (b .journals) k noJournal .size → getD (getD (b .journals) k noJournal .entries) i noEntry .cell .0 < 256
   pub showing : Showing (getD (b .journals) k noJournal) (getD (b .versions) k noVersions)
@@ -51,9 +50,9 @@ passes-at f k (suc m) e i l u =
     go (yes q) h r = rw q h
     go (no q) h r = r q
 
-stands : (n : ℕ) (s : State) → standsIn n s ≡ true → s .place .0 < n
+stands : (n p h : ℕ) → standsIn n p h ≡ true → p < n
 unfolding standsIn
-stands n s e = ltb-true _ _ (both (ltb (s .place .0) n) (leb (s .stack .height) ROOM) e .0)
+stands n p h e = ltb-true _ _ (both (ltb p n) (leb h ROOM) e .0)
 
 mark-within : (m n : ℕ) → markWithin m n ≡ true → (m ≡ 255) ⊎ (m < n)
 unfolding markWithin markOf
@@ -64,19 +63,19 @@ mark-within m n = go (eqb m 255) refl
     go false q e = inr (ltb-true _ _ e)
 
 -- a listed read and its checkpoint, of a job of n instructions, with entries from `least` to `most`
-record ReadFit (n i least most : ℕ) (r : Read) (c : Checkpoint) : Type 0 where
+record ReadFit (n i least most : ℕ) (r : Read) (c : Kept) : Type 0 where
   listed : c .listed ≤ i
   above : least ≤ c .writes
   writes : c .writes ≤ most
 
-read-within : (n before i most : ℕ) (r : Read) (c : Checkpoint) → readWithin n before i r c ≡ true → c .writes ≤ most → ReadFit n i before most r c
+read-within : (n before i most : ℕ) (r : Read) (c : Kept) → readWithin n before i r c ≡ true → c .writes ≤ most → ReadFit n i before most r c
 unfolding readWithin
 read-within n before i most r c e l =
-    let a = both (ltb (r .cell .0) CELLS && standsIn n (c .state) && leb (c .listed) i) (leb before (c .writes)) e in
-    let d = both (ltb (r .cell .0) CELLS && standsIn n (c .state)) (leb (c .listed) i) (a .0) in
+    let a = both (ltb (r .cell .0) CELLS && standsIn n (c .place .0) (c .height) && leb (c .listed) i) (leb before (c .writes)) e in
+    let d = both (ltb (r .cell .0) CELLS && standsIn n (c .place .0) (c .height)) (leb (c .listed) i) (a .0) in
     record { listed = leb-true _ _ (d .1); above = leb-true _ _ (a .1); writes = l }
 
-module _ (n entries : ℕ) (rs : Reads) (cs : ℕ → Checkpoint) where
+module _ (n entries : ℕ) (rs : Reads) (cs : ℕ → Kept) where
   rises-within : (before i m : ℕ) → risesFrom n entries rs cs before i m ≡ true → before ≤ entries
   unfolding risesFrom
   rises-within before i zero e = leb-true _ _ e
@@ -100,7 +99,7 @@ module _ (n entries : ℕ) (rs : Reads) (cs : ℕ → Checkpoint) where
       go (yes q) h r = rw q h
       go (no q) h r = r q
 
-code-few : (j : Job) → codeWithin j ≡ true → j .size ≤ 64
+code-few : (j : Program) → codeWithin j ≡ true → j .size ≤ 64
 unfolding codeWithin
 code-few j e = leb-true _ _ (both (leb (j .size) LONGEST) _ e .0)
 
@@ -129,11 +128,11 @@ showing j v a e =
     let few = versions-few (j .size) v (journal-few j a) e in
     record { entries = journal-few j a; places = few; named = λ i l. rw (place-low v i (omega arith)) (versions-within (j .size) v e i l) }
 
-reads-few : (n entries : ℕ) (rs : Reads) (cs : ℕ → Checkpoint) → readsWithin n entries rs cs ≡ true → rs .size ≤ 8
+reads-few : (n entries : ℕ) (rs : Reads) (cs : ℕ → Kept) → readsWithin n entries rs cs ≡ true → rs .size ≤ 8
 unfolding readsWithin
 reads-few n entries rs cs e = leb-true _ _ (both (leb (rs .size) FEW) _ e .0)
 
-reads-within : (n entries : ℕ) (rs : Reads) (cs : ℕ → Checkpoint) → readsWithin n entries rs cs ≡ true → (i : ℕ) → i < rs .size
+reads-within : (n entries : ℕ) (rs : Reads) (cs : ℕ → Kept) → readsWithin n entries rs cs ≡ true → (i : ℕ) → i < rs .size
     → ReadFit n i 0 entries (getD (rs .reads) i noRead) (cs i)
 unfolding readsWithin
 reads-within n entries rs cs e i l = rises-at n entries rs cs 0 0 (rs .size) (both (leb (rs .size) FEW) _ e .1) i (omega arith) (omega arith)
@@ -144,29 +143,29 @@ count-fit b e = leb-true _ _ (both (leb (b .count) JOBS) _ (sym (block-is b) ∙
 
 -- the tests of one job, one by one
 record Tested (b : Block) (k : ℕ) : Type 0 where
-  code : codeWithin (getD (b .jobs) k noJob) ≡ true
-  state : standsIn (getD (b .jobs) k noJob .size) (getD (b .states) k noState) ≡ true
+  code : codeWithin (getD (b .jobs) k noProgram) ≡ true
+  state : standsIn (getD (b .jobs) k noProgram .size) (getD (b .states) k noState .place .0) (getD (b .states) k noState .stack .height) ≡ true
   journal : journalWithin (getD (b .journals) k noJournal) ≡ true
   versions : versionsWithin (getD (b .journals) k noJournal .size) (getD (b .versions) k noVersions) ≡ true
-  reads : readsWithin (getD (b .jobs) k noJob .size) (getD (b .journals) k noJournal .size) (getD (b .reads) k noReads) (λ i. getD (b .checkpoints) (8 * k + i) noCheckpoint) ≡ true
+  reads : readsWithin (getD (b .jobs) k noProgram .size) (getD (b .journals) k noJournal .size) (getD (b .reads) k noReads) (λ i. keptOf (getD (b .checkpoints) (8 * k + i) noCheckpoint)) ≡ true
   mark : markWithin (getD (b .reads) k noReads .mark) (getD (b .reads) k noReads .size) ≡ true
 
 tested : (b : Block) (k : ℕ) → jobWithinAt b k ≡ true → Tested b k
 unfolding jobWithin
 tested b k e =
     let a = both _ (markWithin (getD (b .reads) k noReads .mark) (getD (b .reads) k noReads .size)) e in
-    let c = both _ (readsWithin (getD (b .jobs) k noJob .size) (getD (b .journals) k noJournal .size) (getD (b .reads) k noReads) (λ i. getD (b .checkpoints) (8 * k + i) noCheckpoint)) (a .0) in
+    let c = both _ (readsWithin (getD (b .jobs) k noProgram .size) (getD (b .journals) k noJournal .size) (getD (b .reads) k noReads) (λ i. keptOf (getD (b .checkpoints) (8 * k + i) noCheckpoint))) (a .0) in
     let d = both _ (versionsWithin (getD (b .journals) k noJournal .size) (getD (b .versions) k noVersions)) (c .0) in
     let f = both _ (journalWithin (getD (b .journals) k noJournal)) (d .0) in
-    let g = both (codeWithin (getD (b .jobs) k noJob)) (standsIn (getD (b .jobs) k noJob .size) (getD (b .states) k noState)) (f .0) in
+    let g = both (codeWithin (getD (b .jobs) k noProgram)) (standsIn (getD (b .jobs) k noProgram .size) (getD (b .states) k noState .place .0) (getD (b .states) k noState .stack .height)) (f .0) in
     record { code = g .0; state = g .1; journal = f .1; versions = d .1; reads = c .1; mark = a .1 }
 
 fit : (b : Block) (k : ℕ) → Tested b k → Fit b k
 fit b k t =
-    let r = reads-within _ _ (getD (b .reads) k noReads) (λ i. getD (b .checkpoints) (8 * k + i) noCheckpoint) (t .reads) in
+    let r = reads-within _ _ (getD (b .reads) k noReads) (λ i. keptOf (getD (b .checkpoints) (8 * k + i) noCheckpoint)) (t .reads) in
     record {
       code = code-few _ (t .code);
-      place = stands _ (getD (b .states) k noState) (t .state);
+      place = stands _ _ _ (t .state);
       journal = journal-few _ (t .journal);
       cells = journal-cells _ (t .journal);
       showing = showing _ _ (t .journal) (t .versions);

@@ -10,10 +10,11 @@ use Rattle.theory.specs.Engine as E
 use Rattle.machine.specs.Limits.{CELLS}
 use Rattle.machine.specs.Machine.{Running, starting}
 use Rattle.machine.specs.Paper.{Answer, jobs, refused, refusal, paperAnswer}
-use Rattle.machine.specs.View.{codeOf, noJob, number}
-use Rattle.machine.specs.declared.job.Job.{Job}
+use Rattle.machine.specs.View.{number}
 use Rattle.turns.specs.Box.{box, limits}
+use Rattle.turns.specs.Program.{noProgram, programOf}
 use Rattle.turns.specs.Block.{blockOf}
+use Rattle.turns.specs.declared.block.Program.{Program}
 use Rattle.turns.specs.declared.block.Reads.{Reads}
 use Rattle.turns.specs.declared.open.Opened.{Opened}
 use Rattle.turns.specs.declared.open.Opening.{Opening}
@@ -49,8 +50,8 @@ pub record Opens (start paper : List ℕ) (r : Opened) : Type 0 where
 
 -- ---- the parts
 -- the first n jobs, each at its start
-unfoldable pub freshBlock : List ℕ → ℕ → List Job → E.Block Running
-freshBlock table n js = record { table = table; jobs = tab n (λ k. E.fresh (starting (codeOf (getD js k noJob)))) }
+unfoldable pub freshBlock : List ℕ → ℕ → List Program → E.Block Running
+freshBlock table n ps = record { table = table; jobs = tab n (λ k. E.fresh (starting (programOf (getD ps k noProgram)))) }
 
 -- a list of no reads, marked nowhere
 pub record NoReads (r : Reads) : Type 0 where

@@ -9,20 +9,20 @@ use Rattle.theory.specs.Engine as E
 use Rattle.theory.specs.Engine.{withdrawn}
 use Rattle.machine.specs.Limits.{CELLS}
 use Rattle.machine.specs.Machine.{Running}
-use Rattle.machine.specs.View.{codeOf}
-use Rattle.machine.specs.declared.job.Job.{Job}
 use Rattle.machine.specs.declared.job.State.{State}
 use Rattle.machine.specs.declared.counts.Cell.{Cell}
 use Rattle.machine.specs.declared.step.Act.the-variants.{Read as ReadAct}
 use Rattle.machine.specs.declared.step.Stepped.{Stepped}
+use Rattle.turns.specs.Program.{programOf}
 use Rattle.turns.specs.View.{entryOf, journalOf, versionsOf, noJournal, noVersions, noReads, Showing, ShowingBelow}
 use Rattle.turns.specs.Block.{codeAt, noState, noCheckpoint}
 use Rattle.turns.specs.Alone.{StepsIn}
-use Rattle.turns.specs.Marks.{markReads, sweep}
+use Rattle.turns.specs.Marks.{Shown, markReads, sweep, ListsFit}
 use Rattle.turns.specs.Moves.{Adds}
 use Rattle.turns.specs.Turn.{Did, Reading, Whole, moving}
 use Rattle.turns.specs.declared.block.Entry.{Entry}
 use Rattle.turns.specs.declared.block.Journal.{Journal}
+use Rattle.turns.specs.declared.block.Program.{Program}
 use Rattle.turns.specs.declared.block.Versions.{Versions}
 use Rattle.turns.specs.declared.block.Checkpoint.{Checkpoint}
 use Rattle.turns.specs.declared.block.Read.{Read}
@@ -195,11 +195,18 @@ pub record Ready (o : Own) (seen : Around) (t : ℕ) : Type 0 where
 
 -- ---- a turn that may be refused
 -- the step that the job would take, where it is not
-pub record StepsIf (refused : Bool) (code : Job) (s : State) (done : Stepped) : Type 0 where
+pub record StepsIf (refused : Bool) (code : Program) (s : State) (done : Stepped) : Type 0 where
   pub cells : InCells done
-  pub steps : refused ≡ false → StepsIn (codeOf code) s done
+  pub steps : refused ≡ false → StepsIn (programOf code) s done
 
 -- a refused turn leaves the parts as they were, and says so by this word
 pub record MovesIf (refused : Bool) (w : Word) (o : Own) (Q : Block → ℕ → Type 0) (m : Move) : Type 0 where
   pub stays : refused ≡ true → m ≡ still w o
   pub moves : refused ≡ false → Moves o Q moving m
+
+-- where a move marks, the lists and what the job shows are fit for it
+pub record MayMark (m : Move) (o : Own) (ls : List Reads) (n i : ℕ) : Type 0 where
+  pub count : m .marks ≡ true → n ≤ 16
+  pub lists : m .marks ≡ true → ListsFit (set ls i (m .own .list)) n
+  pub before : m .marks ≡ true → Shown (showsOf o)
+  pub after : m .marks ≡ true → Shown (showsOf (m .own))

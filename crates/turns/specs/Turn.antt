@@ -11,9 +11,10 @@ use Rattle.theory.specs.Promise.{read}
 use Rattle.theory.specs.Engine as E
 use Rattle.machine.specs.Limits.{ROOM, FEW}
 use Rattle.machine.specs.Machine.{Running, given}
-use Rattle.machine.specs.View.{stateOf, noJob}
+use Rattle.machine.specs.View.{stateOf}
 use Rattle.machine.specs.declared.job.State.{State}
 use Rattle.turns.specs.Box.{box, limits}
+use Rattle.turns.specs.Program.{noProgram}
 use Rattle.turns.specs.View.{entryOf, noRead, noReads}
 use Rattle.turns.specs.Block.{codeAt, noState, noCheckpoint, runningOf, jobOf, blockOf}
 use Rattle.turns.specs.Moves.{Sized, Held}
@@ -111,8 +112,8 @@ pub record Reading (b : Block) (i : ℕ) (next : State) (c : ℕ) : Type 0 where
 -- all that a turn may take for granted of a block that fits
 pub record Whole (b : Block) : Type 0 where
   pub sized : Sized b
-  pub short : (k : ℕ) → k < b .count → getD (b .jobs) k noJob .size ≤ 64
-  pub inside : (k : ℕ) → k < b .count → getD (b .states) k noState .place .0 < getD (b .jobs) k noJob .size
+  pub short : (k : ℕ) → k < b .count → getD (b .jobs) k noProgram .size ≤ 64
+  pub inside : (k : ℕ) → k < b .count → getD (b .states) k noState .place .0 < getD (b .jobs) k noProgram .size
   pub marked : (k : ℕ) → k < b .count → (getD (b .reads) k noReads .mark ≡ 255 → ⊥) → getD (b .reads) k noReads .mark < getD (b .reads) k noReads .size
   pub held : (k i : ℕ) → k < b .count → i < getD (b .reads) k noReads .size → Held b k (getD (b .checkpoints) (8 * k + i) noCheckpoint)
 

@@ -1,8 +1,17 @@
 // A block in work, by value and in small parts, so that a turn moves only the parts that it touches.
 use machine::counts::Cell;
 use machine::counts::Ticket;
-use machine::job::Job;
 use machine::job::State;
+
+// The instructions of a job, in bytes, so that the test of sizes takes many at a time. The operand of a PUSH, which may be any
+// number, stands in `pushed`, every other in `arguments`.
+#[repr(C)]
+pub struct Program {
+    pub codes: [u8; 64],
+    pub arguments: [u8; 64],
+    pub pushed: [u64; 64],
+    pub size: u8,
+}
 
 // A write of a value to a cell.
 #[repr(C)]
@@ -59,7 +68,7 @@ pub struct Checkpoint {
 pub struct Block {
     pub start: [u64; 256],
     pub count: u8,
-    pub jobs: [Job; 16],
+    pub jobs: [Program; 16],
     pub states: [State; 16],
     pub status: [u8; 16],
     pub journals: [Journal; 16],

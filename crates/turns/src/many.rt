@@ -8,7 +8,7 @@ use crate::own::own_of;
 use crate::own::shows_of;
 use crate::own::slot_of;
 use crate::own::take_own;
-use crate::serial::instruct_at;
+use crate::program::program_step;
 use crate::sizes::block_fits;
 use crate::turn::Word;
 use crate::turn::is_refused;
@@ -80,7 +80,7 @@ fn take_all(mut b: Block, fits: bool, tickets: &[u8], words: &mut [u8]) -> Block
         let held = b.journals[i];
         let own = own_of(b.states[i], b.status[i], held, b.versions[i], list, here);
         let around = around_of(b.status, b.journals, b.versions);
-        let step = instruct_at(b.jobs[i], b.states[i]);
+        let step = program_step(b.jobs[i], b.states[i]);
         let first = b.start[cell_read(step)];
         let done = take_own(step, own, b.checkpoints[mark], around, first, t);
         let after = done.own;

@@ -1,14 +1,16 @@
 // The opening: a block in work with every job fresh; or a refusal, and a block with no jobs and an all-zero table.
 use crate::block::Block;
 use crate::block::Checkpoint;
+use crate::block::Program;
 use crate::block::Read;
 use crate::block::Reads;
+use crate::program::programs_of;
+use crate::program::stops;
 use crate::serial::no_entries;
 use crate::versions::no_versions;
 use machine::counts::Cell;
 use machine::counts::Place;
 use machine::counts::Ticket;
-use machine::instruction::Instruction;
 use machine::job::Job;
 use machine::paper::Field;
 use machine::paper::Verdict;
@@ -65,7 +67,7 @@ fn no_reads() -> Reads
 }
 
 // The first count jobs, each at its start.
-fn fresh_block(table: [u64; 256], count: u8, jobs: [Job; 16]) -> Block
+fn fresh_block(table: [u64; 256], count: u8, jobs: [Program; 16]) -> Block
     requires { ⌜ count ≤ JOBS ⌝ }
     ensures { λ r. ⌜ blockOf r ≡ freshBlock table count jobs ⌝ }
 {
@@ -95,14 +97,7 @@ fn fresh_block(table: [u64; 256], count: u8, jobs: [Job; 16]) -> Block
 fn nothing_open() -> Block
     ensures { λ r. ⌜ blockOf r ≡ nothingOpen ⌝ }
 {
-    let stop = Instruction {
-        code: Instruction::STOP,
-        operand: 0,
-    };
-    let empty = Job {
-        code: [stop; 64],
-        size: 0,
-    };
+    let empty = stops(0);
     fresh_block([0; 256], 0, [empty; 16])
 }
 
@@ -136,8 +131,9 @@ pub fn open(start: &[u64], paper: &[u8]) -> Opened
     };
     let table = table_of(start);
     let jobs = checked.jobs;
+    let programs = programs_of(jobs, checked.count);
     Opened {
-        block: fresh_block(table, checked.count, jobs),
+        block: fresh_block(table, checked.count, programs),
         answer: Opening::Accepted,
     }
 }

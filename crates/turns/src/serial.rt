@@ -62,7 +62,7 @@ fn read_alone(j: Journal, c: Cell, table: &[u64]) -> u64
 }
 
 // The instruction at which a job stands.
-pub(crate) fn instruct_at(job: Job, s: State) -> Stepped
+fn instruct_at(job: Job, s: State) -> Stepped
     requires { ⌜ (s .place .0 < job .size) × (job .size ≤ LONGEST) ⌝ }
     ensures { λ r. ⌜ StepsIn (codeOf job) s r ⌝ }
 {

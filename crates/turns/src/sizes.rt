@@ -3,6 +3,7 @@ use crate::block::Block;
 use crate::block::Checkpoint;
 use crate::block::Entry;
 use crate::block::Journal;
+use crate::block::Program;
 use crate::block::Read;
 use crate::block::Reads;
 use crate::block::Versions;
@@ -12,52 +13,88 @@ use machine::instruction::Instruction;
 use machine::job::Job;
 use machine::job::State;
 ghost use mathlib.Core.Path.{_≡_};
-ghost use mathlib.Core.Bool.{cond, _&&_};
+ghost use mathlib.Core.Bool.{cond, _&&_, _||_};
+ghost use mathlib.Core.List.{[], _∷_};
+ghost use Prim.Native.Nat.{suc, _-_, _<_};
 ghost use lib.Dec.{leb};
+ghost use Rattle.theory.specs.Lists.{tab};
 ghost use Rattle.theory.specs.Engine.{blockFits};
 ghost use Rattle.machine.specs.Limits.{JOBS};
 ghost use Rattle.turns.specs.Box.{limits, box};
 ghost use Rattle.turns.specs.Block.{blockOf};
 ghost use Rattle.turns.specs.View.{placeAt};
-ghost use Rattle.turns.specs.Sizes.{instructionWithin, codeWithin, standsIn, entryWithin, journalWithin, versionsWithin, readWithin, readsWithin, markWithin, jobWithin, listed};
+ghost use Rattle.turns.specs.Sizes.{byCode, keepsAt, bytesWithin, keptOf, standsIn, entryWithin, journalWithin, versionsWithin, readWithin, readsWithin, markWithin, jobWithin, listed};
 
-// An instruction keeps to 5 and 6.
-fn instruction_fits(i: Instruction, place: Place, size: u8) -> bool
-    ensures { λ r. ⌜ r ≡ instructionWithin size (place .0) i ⌝ }
+// What the jumps have, what DUP and SWAP have, and what all others have.
+fn by_code(code: u8, jump: u8, count: u8, other: u8) -> u8
+    ensures { λ r. ⌜ r ≡ byCode code jump count other ⌝ }
 {
-    if !i.known() {
-        return false;
+    if 11 < code {
+        return jump;
     }
-    i.fits(place, size)
+    if 5 < code {
+        return other;
+    }
+    if 3 < code {
+        return count;
+    }
+    other
+}
+
+// An instruction keeps to 5 and 6. Every test is made, and none by a branch, so that the compiler makes many at a time.
+fn keeps(code: u8, argument: u8, next: u8, size: u8) -> bool
+    requires { ⌜ 0 < next ⌝ }
+    ensures { λ r. ⌜ r ≡ keepsAt size (next - 1) code argument ⌝ }
+{
+    let above = by_code(code, next, 1, 0) <= argument;
+    let below = argument < by_code(code, size, 16, 1);
+    let within = both(above, below);
+    let any = code == Instruction::PUSH;
+    let free = either(any, within);
+    both(code <= 13, free)
+}
+
+// The place after each: a count would be compared eight bytes wide.
+fn next_places() -> [u8; 64]
+    ensures { λ r. ⌜ r ≡ tab 64 suc ⌝ }
+{
+    let mut all = [0; 64];
+    let mut k: u8 = 0;
+    while k < 64 {
+        let next = k + 1;
+        all[k as usize] = next;
+        k = next;
+    }
+    all
 }
 
 // A job's instructions are few, and each keeps to 5 and 6.
-fn code_fits(j: Job) -> bool
-    ensures { λ r. ⌜ r ≡ codeWithin j ⌝ }
+fn code_fits(codes: [u8; 64], arguments: [u8; 64], size: u8) -> bool
+    ensures { λ r. ⌜ r ≡ bytesWithin codes arguments size ⌝ }
 {
-    let size = j.size;
     if Job::LONGEST < size {
         return false;
     }
-    let mut p = size;
-    while 0 < p {
-        let i = j.code[(p - 1) as usize];
-        if !instruction_fits(i, Place(p - 1), size) {
-            return false;
-        }
-        p = p - 1;
+    let nexts = next_places();
+    let mut fits = true;
+    let mut p: u8 = 0;
+    while p < size {
+        let at = p as usize;
+        let here = keeps(codes[at], arguments[at], nexts[at], size);
+        fits = both(fits, here);
+        p = p + 1;
     }
-    true
+    fits
 }
 
 // The place is in a job of so many instructions, and the stack within its room.
-fn stands_in(s: State, size: u8) -> bool
-    ensures { λ r. ⌜ r ≡ standsIn size s ⌝ }
+fn stands_in(place: Place, height: u8, size: u8) -> bool
+    ensures { λ r. ⌜ r ≡ standsIn size (place .0) height ⌝ }
 {
-    if size <= s.place.0 {
+    if size <= place.0 {
         return false;
     }
-    s.stack.height <= Job::ROOM
+    height <= Job::ROOM
 }
 
 fn entry_fits(e: Entry) -> bool
@@ -110,15 +147,60 @@ fn versions_fit(v: Versions, entries: u8) -> bool
     true
 }
 
+// The counts of a checkpoint: all but its stack's entries.
+pub(crate) struct Kept {
+    pub place: Place,
+    pub height: u8,
+    pub writes: u8,
+    pub listed: u8,
+}
+
+fn kept_one(c: Checkpoint) -> Kept
+    ensures { λ r. ⌜ r ≡ keptOf c ⌝ }
+{
+    let s = c.state;
+    let place = s.place;
+    Kept {
+        place: place,
+        height: s.stack.height,
+        writes: c.writes,
+        listed: c.listed,
+    }
+}
+
+// Those of a job's eight.
+pub(crate) fn kept_of(
+    c0: Checkpoint,
+    c1: Checkpoint,
+    c2: Checkpoint,
+    c3: Checkpoint,
+    c4: Checkpoint,
+    c5: Checkpoint,
+    c6: Checkpoint,
+    c7: Checkpoint,
+) -> [Kept; 8]
+    ensures { λ r. ⌜ r ≡ keptOf c0 ∷ keptOf c1 ∷ keptOf c2 ∷ keptOf c3 ∷ keptOf c4 ∷ keptOf c5 ∷ keptOf c6 ∷ keptOf c7 ∷ [] ⌝ }
+{
+    let k0 = kept_one(c0);
+    let k1 = kept_one(c1);
+    let k2 = kept_one(c2);
+    let k3 = kept_one(c3);
+    let k4 = kept_one(c4);
+    let k5 = kept_one(c5);
+    let k6 = kept_one(c6);
+    let k7 = kept_one(c7);
+    [k0, k1, k2, k3, k4, k5, k6, k7]
+}
+
 // The i-th read of a job of so many instructions, after a checkpoint with so many entries.
-fn read_fits(r: Read, c: Checkpoint, i: u8, before: u8, size: u8) -> bool
+fn read_fits(r: Read, c: Kept, i: u8, before: u8, size: u8) -> bool
     ensures { λ x. ⌜ x ≡ readWithin size before i r c ⌝ }
 {
     if Cell::COUNT <= r.cell.0 {
         return false;
     }
-    let s = c.state;
-    if !stands_in(s, size) {
+    let place = c.place;
+    if !stands_in(place, c.height, size) {
         return false;
     }
     if i < c.listed {
@@ -128,7 +210,7 @@ fn read_fits(r: Read, c: Checkpoint, i: u8, before: u8, size: u8) -> bool
 }
 
 // The reads are few; no checkpoint has fewer entries than the one before it, and none more than the journal.
-fn reads_fit(rs: Reads, cs: [Checkpoint; 8], size: u8, entries: u8) -> bool
+fn reads_fit(rs: Reads, cs: [Kept; 8], size: u8, entries: u8) -> bool
     ensures { λ r. ⌜ r ≡ readsWithin size entries rs (listed cs) ⌝ }
 {
     let n = rs.size;
@@ -161,20 +243,23 @@ fn mark_fits(mark: u8, n: u8) -> bool
 
 // A job in its run, with the checkpoints of its reads.
 pub(crate) fn job_fits(
-    job: Job,
+    job: Program,
     state: State,
     journal: Journal,
     versions: Versions,
     reads: Reads,
-    cs: [Checkpoint; 8],
+    cs: [Kept; 8],
 ) -> bool
     ensures { λ r. ⌜ r ≡ jobWithin job state journal versions reads (listed cs) ⌝ }
 {
-    if !code_fits(job) {
+    let size = job.size;
+    let codes = job.codes;
+    let arguments = job.arguments;
+    if !code_fits(codes, arguments, size) {
         return false;
     }
-    let size = job.size;
-    if !stands_in(state, size) {
+    let place = state.place;
+    if !stands_in(place, state.stack.height, size) {
         return false;
     }
     if !journal_fits(journal) {
@@ -191,13 +276,13 @@ pub(crate) fn job_fits(
 }
 
 // The jobs to be tested: none where there are too many.
-pub(crate) fn jobs_in(count: u8) -> u8
+pub(crate) fn jobs_in(count: u8) -> usize
     ensures { λ r. ⌜ r ≡ cond (leb count JOBS) count 0 ⌝ }
 {
     if 16 < count {
         return 0;
     }
-    count
+    count as usize
 }
 
 pub(crate) fn both(x: bool, y: bool) -> bool
@@ -209,16 +294,24 @@ pub(crate) fn both(x: bool, y: bool) -> bool
     false
 }
 
+fn either(x: bool, y: bool) -> bool
+    ensures { λ r. ⌜ r ≡ x || y ⌝ }
+{
+    if x {
+        return true;
+    }
+    y
+}
+
 // Whether a block in work fits its sizes.
 pub(crate) fn block_fits(b: Block) -> bool
     ensures { λ r. ⌜ r ≡ blockFits limits box (blockOf b) ⌝ }
 {
     let count = jobs_in(b.count);
     let mut fits = b.count <= 16;
-    let mut k: u8 = 0;
+    let mut k: usize = 0;
     while k < count {
-        let n = k as usize;
-        let at = 8 * n;
+        let at = 8 * k;
         let c0 = b.checkpoints[at];
         let c1 = b.checkpoints[at + 1];
         let c2 = b.checkpoints[at + 2];
@@ -227,10 +320,10 @@ pub(crate) fn block_fits(b: Block) -> bool
         let c5 = b.checkpoints[at + 5];
         let c6 = b.checkpoints[at + 6];
         let c7 = b.checkpoints[at + 7];
-        let cs = [c0, c1, c2, c3, c4, c5, c6, c7];
-        let held = b.journals[n];
-        let list = b.reads[n];
-        let here = job_fits(b.jobs[n], b.states[n], held, b.versions[n], list, cs);
+        let cs = kept_of(c0, c1, c2, c3, c4, c5, c6, c7);
+        let held = b.journals[k];
+        let list = b.reads[k];
+        let here = job_fits(b.jobs[k], b.states[k], held, b.versions[k], list, cs);
         fits = both(fits, here);
         k = k + 1;
     }

@@ -1,6 +1,10 @@
 // One turn of a block in work.
 use crate::block::Block;
 use crate::block::Checkpoint;
+use crate::block::Journal;
+use crate::block::Program;
+use crate::block::Reads;
+use crate::block::Versions;
 use crate::marks::mark_above;
 use crate::own::Around;
 use crate::own::Move;
@@ -12,24 +16,23 @@ use crate::own::shows_of;
 use crate::own::slot_of;
 use crate::own::stay;
 use crate::own::take_own;
-use crate::serial::instruct_at;
+use crate::program::program_step;
 use crate::sizes::both;
 use crate::sizes::job_fits;
 use crate::sizes::jobs_in;
+use crate::sizes::kept_of;
 use machine::counts::Ticket;
-use machine::job::Job;
 use machine::job::State;
 use machine::step::Act;
 use machine::step::Stepped;
 ghost use mathlib.Core.Path.{_≡_};
 ghost use mathlib.Core.Bool.{false, not, _||_};
 ghost use Prim.Native.Nat.{_-_, _≤_, _<_};
-ghost use Rattle.theory.specs.Engine.{blockFits};
+ghost use lib.ListN.{set};
 ghost use Rattle.machine.specs.Limits.{LONGEST};
-ghost use Rattle.turns.specs.Box.{limits, box};
-ghost use Rattle.turns.specs.Block.{blockOf};
 ghost use Rattle.turns.specs.Turn.{foreign, refusing, Turns};
-ghost use Rattle.turns.specs.Own.{Long, AtTurn, Ready, StepsIf, MovesIf};
+ghost use Rattle.turns.specs.Own.{showsOf, markedBy, AtTurn, Ready, StepsIf, MovesIf, MayMark};
+ghost use Rattle.turns.specs.Change.{changeBy, Changes};
 
 pub enum Word {
     Idle,
@@ -45,6 +48,20 @@ pub enum Word {
 // The block stands first, so that it is handed over in one piece.
 pub struct Turned {
     pub block: Block,
+    pub word: Word,
+}
+
+// What a turn changes of a block: the parts of the job at a place, the checkpoint in a slot, and the lists of reads, among
+// which it may mark.
+pub struct Change {
+    pub reads: [Reads; 16],
+    pub state: State,
+    pub journal: Journal,
+    pub saved: Checkpoint,
+    pub versions: Versions,
+    pub status: u8,
+    pub place: usize,
+    pub slot: usize,
     pub word: Word,
 }
 
@@ -98,7 +115,7 @@ fn place_in(t: Ticket, refused: bool) -> usize
 }
 
 // The step that the job would take; none for a refused ticket.
-fn next_step(refused: bool, job: Job, s: State) -> Stepped
+fn next_step(refused: bool, job: Program, s: State) -> Stepped
     requires { ⌜ (refused ≡ false → (s .place .0 < job .size) × (job .size ≤ LONGEST)) ⌝ }
     ensures { λ r. ⌜ StepsIf refused job s r ⌝ }
 {
@@ -108,7 +125,7 @@ fn next_step(refused: bool, job: Job, s: State) -> Stepped
             state: s,
         };
     }
-    instruct_at(job, s)
+    program_step(job, s)
 }
 
 // The rules, or the word of a refused turn.
@@ -131,60 +148,54 @@ fn take_or_refuse(
     take_own(step, own, back, around, first, t)
 }
 
-// One turn in this function's own block. A refused ticket goes the same way, and its parts are stored as they were: each way
-// out of a function that holds a block costs a copy of it.
-fn take_turn(mut b: Block, fits: bool, t: Ticket) -> Turned
-    requires { ⌜ (fits ≡ blockFits limits box (blockOf b)) × Long b ⌝ }
-    ensures { λ r. ⌜ Turns b (t .0) r ⌝ }
+// What a move changes, with the higher jobs marked where it may have changed what is public.
+fn change_by(
+    done: Move,
+    own: Own,
+    lists: [Reads; 16],
+    count: u8,
+    t: Ticket,
+    i: usize,
+    slot: usize,
+) -> Change
+    requires { ⌜ (i < 16) × MayMark done own lists count i ⌝ }
+    ensures { λ r. ⌜ r ≡ changeBy i slot done (markedBy (done .marks) (set lists i (done .own .list)) count (showsOf own) (showsOf (done .own)) (t .0)) ⌝ }
 {
-    let refused = is_refused(t, b.count, fits);
-    let i = place_in(t, refused);
-    let list = b.reads[i];
-    let slot = slot_of(i, list.size);
-    let mark = slot_of(i, list.mark);
-    let here = b.checkpoints[slot];
-    let held = b.journals[i];
-    let own = own_of(b.states[i], b.status[i], held, b.versions[i], list, here);
-    let around = around_of(b.status, b.journals, b.versions);
-    let step = next_step(refused, b.jobs[i], b.states[i]);
-    let first = b.start[cell_read(step)];
-    let foreign = is_foreign(t, b.count);
-    let word = refusal(foreign);
-    let back = b.checkpoints[mark];
-    let done = take_or_refuse(refused, word, step, own, back, around, first, t);
-    let said = done.word;
     let after = done.own;
     let state = after.state;
     let journal = after.journal;
     let versions = after.versions;
-    let reads = after.list;
     let saved = after.slot;
-    b.states[i] = state;
-    b.status[i] = after.status;
-    b.journals[i] = journal;
-    b.versions[i] = versions;
-    b.reads[i] = reads;
-    b.checkpoints[slot] = saved;
+    let list = after.list;
+    let word = done.word;
+    let mut reads = lists;
+    reads[i] = list;
     if done.marks {
-        b.reads = mark_above(b.reads, b.count, shows_of(own), shows_of(after), t);
+        reads = mark_above(reads, count, shows_of(own), shows_of(after), t);
     }
-    Turned {
-        block: b,
-        word: said,
+    Change {
+        reads: reads,
+        state: state,
+        journal: journal,
+        saved: saved,
+        versions: versions,
+        status: after.status,
+        place: i,
+        slot: slot,
+        word: word,
     }
 }
 
-// Ticket t takes one turn: 14 for a ticket that is none of the block's, 20 for a block that does not fit, and else the rules.
-// The sizes are tested here, job by job as in `block_fits`: a call of that would copy the block twice.
-pub fn turn(b: Block, t: Ticket) -> Turned
-    ensures { λ r. ⌜ Turns b (t .0) r ⌝ }
+// What ticket t's turn changes: nothing for a ticket that is none of the block's (14) or a block that does not fit (20), whose
+// parts are given as they were, and else what the rules say. The block is read where it stands: a call that took it would copy it.
+pub fn change_of(b: Block, t: Ticket) -> Change
+    ensures { λ r. ⌜ Changes b (t .0) r ⌝ }
 {
     let count = jobs_in(b.count);
     let mut fits = b.count <= 16;
-    let mut k: u8 = 0;
+    let mut k: usize = 0;
     while k < count {
-        let n = k as usize;
-        let at = 8 * n;
+        let at = 8 * k;
         let c0 = b.checkpoints[at];
         let c1 = b.checkpoints[at + 1];
         let c2 = b.checkpoints[at + 2];
@@ -193,12 +204,51 @@ pub fn turn(b: Block, t: Ticket) -> Turned
         let c5 = b.checkpoints[at + 5];
         let c6 = b.checkpoints[at + 6];
         let c7 = b.checkpoints[at + 7];
-        let cs = [c0, c1, c2, c3, c4, c5, c6, c7];
-        let held = b.journals[n];
-        let list = b.reads[n];
-        let here = job_fits(b.jobs[n], b.states[n], held, b.versions[n], list, cs);
+        let cs = kept_of(c0, c1, c2, c3, c4, c5, c6, c7);
+        let held = b.journals[k];
+        let list = b.reads[k];
+        let here = job_fits(b.jobs[k], b.states[k], held, b.versions[k], list, cs);
         fits = both(fits, here);
         k = k + 1;
     }
-    take_turn(b, fits, t)
+    let refused = is_refused(t, b.count, fits);
+    let i = place_in(t, refused);
+    let list = b.reads[i];
+    let slot = slot_of(i, list.size);
+    let here = b.checkpoints[slot];
+    let held = b.journals[i];
+    let own = own_of(b.states[i], b.status[i], held, b.versions[i], list, here);
+    let around = around_of(b.status, b.journals, b.versions);
+    let lists = b.reads;
+    let step = next_step(refused, b.jobs[i], b.states[i]);
+    let first = b.start[cell_read(step)];
+    let back = b.checkpoints[slot_of(i, list.mark)];
+    let word = refusal(is_foreign(t, b.count));
+    let done = take_or_refuse(refused, word, step, own, back, around, first, t);
+    change_by(done, own, lists, b.count, t, i, slot)
+}
+
+// Ticket t takes one turn: 14 for a ticket that is none of the block's, 20 for a block that does not fit, and else the rules.
+pub fn turn(mut b: Block, t: Ticket) -> Turned
+    ensures { λ r. ⌜ Turns b (t .0) r ⌝ }
+{
+    let c = change_of(b, t);
+    let i = c.place;
+    let slot = c.slot;
+    let state = c.state;
+    let journal = c.journal;
+    let versions = c.versions;
+    let saved = c.saved;
+    let reads = c.reads;
+    let word = c.word;
+    b.states[i] = state;
+    b.status[i] = c.status;
+    b.journals[i] = journal;
+    b.versions[i] = versions;
+    b.reads = reads;
+    b.checkpoints[slot] = saved;
+    Turned {
+        block: b,
+        word: word,
+    }
 }

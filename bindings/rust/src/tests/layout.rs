@@ -19,8 +19,7 @@ fn jobs_and_states() {
     let work = block().work;
     assert_eq!((work.start[9], work.count), (4, 2));
     assert_eq!((work.jobs[0].size, work.jobs[1].size), (4, 8));
-    let instruction = work.jobs[1].code[5];
-    assert_eq!((instruction.code, instruction.operand), (PUSH, 6));
+    assert_eq!((work.jobs[1].codes[5], work.jobs[1].pushed[5]), (PUSH, 6));
     assert_eq!((work.status[0], work.status[1]), (1, 0));
     assert_eq!((work.states[0].place, work.states[1].place), (3, 6));
     let stack = work.states[1].stack;

@@ -46,7 +46,7 @@ use Rattle.turns.proofs.block.Block as T
 use Rattle.turns.proofs.block.Block.Laws as T′
 use Rattle.garvolish.specs.Numbers.{OpensTo}
 use Rattle.garvolish.specs.declared.number.Numbered.{Numbered}
-use Rattle.garvolish.proofs.Spelled.{val, numberedVal, number-is, spelled, numbered-is, block-is}
+use Rattle.garvolish.proofs.Spelled.{val, numberedVal, number-is, spelled, numbered-is, block-is, in-numbered}
 use Rattle.garvolish.proofs.number.Numbered as R
 use Rattle.garvolish.proofs.number.Numbered.Laws as R′
 use Rattle.garvolish.proofs.number.open_number as called
@@ -148,7 +148,7 @@ module _ {M : Type 1} (𝓤 : URA M) (H : Heap 𝓤) (A : Atoms 𝓤) (W : Given
         move ! (1 ∷ []) $ drop ! $
         -- [the struct's cell; the open borrow; obs; auth; what the slices own; their tokens; _4; …; _3; …; _2; …; _1; …; room for _0; …]
         assigns ! (of-opd ! (load ! (from ! (fld ! {τ = T′.mir} {d = 0} refl (stop !))) (look-in ! 7 (sub ! 0 {τ = T′.mir} {d = 0} refl (whole !))))) (from ! (hop ! (look ! 13 refl) (stop !))) (store-raw ! 0 refl (LL.lawful T.the-type T′.the-laws 𝓤 H A W .typed (r .block) _ (block-is r v is) .0)) $
-        assigns ! (of-opd ! (load ! (from ! (fld ! {τ = tyInt w32} {d = 44840} refl (stop !))) (look-in ! 7 (sub ! 1 {τ = tyInt w32} {d = 44840} refl (whole !))))) (from ! (stop !)) (init ! 15 refl (tt, record { fits = number-is r v is .1 })) $
+        assigns ! (of-opd ! (load ! (from ! (fld ! {τ = tyInt w32} {d = in-numbered 1} refl (stop !))) (look-in ! 7 (sub ! 1 {τ = tyInt w32} {d = in-numbered 1} refl (whole !))))) (from ! (stop !)) (init ! 15 refl (tt, record { fits = number-is r v is .1 })) $
         rewrite ! 7 (λ (τ : Ty). ‵ (fat fullShare τ l₄ 0 (numberedVal r))) (sym numbered-is) refl $
         owned ! T.the-row (Is T.the-row) (LL.makes T.the-type T′.the-plain 𝓤 H A) (r .block) _ (block-is r v is) $ move ! (1 ∷ 0 ∷ []) $ closes ! tt T.the-row (r .block) (val (r .block) ∷ []) b o $
         returns ! (look ! 14 refl) $ forget ! 6 refl $ forget ! 8 refl $ forget ! 10 refl $ forget ! 12 refl $ forget ! 14 refl $

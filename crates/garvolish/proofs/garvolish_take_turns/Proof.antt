@@ -46,7 +46,7 @@ use Rattle.turns.proofs.block.Block as T
 use Rattle.turns.proofs.block.Block.Laws as T′
 use Rattle.garvolish.specs.Numbers.{TakesTo}
 use Rattle.garvolish.specs.declared.number.Numbered.{Numbered}
-use Rattle.garvolish.proofs.Spelled.{val, numberedVal, number-is, spelled, numbered-is, block-is}
+use Rattle.garvolish.proofs.Spelled.{val, numberedVal, number-is, spelled, numbered-is, block-is, in-numbered}
 use Rattle.garvolish.proofs.number.Numbered as R
 use Rattle.garvolish.proofs.number.Numbered.Laws as R′
 use Rattle.garvolish.proofs.number.take_number as called
@@ -136,7 +136,7 @@ module _ {M : Type 1} (𝓤 : URA M) (H : Heap 𝓤) (A : Atoms 𝓤) (W : Given
         rewrite ! 15 (λ (u : Val). ‵ (fat fullShare R′.mir l₄ 0 u)) (spelled r v is) refl $
         rewrite ! 15 (λ (τ : Ty). ‵ (fat fullShare τ l₄ 0 (numberedVal r))) numbered-is refl $
         assigns ! (of-opd ! (load ! (from ! (fld ! {τ = T′.mir} {d = 0} refl (stop !))) (look-in ! 15 (sub ! 0 {τ = T′.mir} {d = 0} refl (whole !))))) (from ! (hop ! (look ! 21 refl) (stop !))) (store-raw ! 4 refl (LL.lawful T.the-type T′.the-laws 𝓤 H A W .typed (r .block) _ (block-is r v is) .0)) $
-        assigns ! (of-opd ! (load ! (from ! (fld ! {τ = tyInt w32} {d = 44840} refl (stop !))) (look-in ! 15 (sub ! 1 {τ = tyInt w32} {d = 44840} refl (whole !))))) (from ! (stop !)) (init ! 23 refl (tt, record { fits = number-is r v is .1 })) $
+        assigns ! (of-opd ! (load ! (from ! (fld ! {τ = tyInt w32} {d = in-numbered 1} refl (stop !))) (look-in ! 15 (sub ! 1 {τ = tyInt w32} {d = in-numbered 1} refl (whole !))))) (from ! (stop !)) (init ! 23 refl (tt, record { fits = number-is r v is .1 })) $
         rewrite ! 15 (λ (τ : Ty). ‵ (fat fullShare τ l₄ 0 (numberedVal r))) (sym numbered-is) refl $
         drop ! $ owned ! T.the-row (Is T.the-row) (LL.makes T.the-type T′.the-plain 𝓤 H A) (r .block) _ (block-is r v is) $ move ! (4 ∷ 0 ∷ 5 ∷ 6 ∷ 7 ∷ []) $ closes ! tt T.the-row (r .block) (val (r .block) ∷ []) b o $
         returns ! (look ! 21 refl) $ forget ! 7 refl $ forget ! 9 refl $ forget ! 11 refl $ forget ! 13 refl $ forget ! 15 refl $ forget ! 17 refl $ forget ! 19 refl $ forget ! 21 refl $

@@ -8,10 +8,10 @@ use native.Mathlib.Omega.{arith}
 use native.Mathlib.Numerals.{add-one}
 use native.Mathlib.Decide.{ℕ-discrete}
 use lib.Dec.{eqb}
-use lib.ListN.{length, getD, take, set, List·getD-map}
+use lib.ListN.{length, getD, take, set}
 use lib.Seq.{getD-set-same, getD-set-other, take-suc, take-suc-set, take-all, ext-getD}
 use borrow.Author.Tests.{eq-eqb, ne-eqb}
-use Rattle.theory.specs.Lists.{tab, length-tab, getD-tab, firsts, getD-firsts}
+use Rattle.theory.specs.Lists.{tab, length-tab, getD-tab}
 use Rattle.theory.specs.Promise.{Machine}
 use Rattle.theory.specs.Every.{every-at}
 use Rattle.theory.specs.Engine as E
@@ -28,7 +28,6 @@ use Rattle.machine.specs.declared.paper.Field.{Field}
 use Rattle.machine.specs.declared.paper.Checked.{Checked}
 use Rattle.machine.specs.declared.paper.Verdict.{Verdict}
 use Rattle.machine.specs.declared.paper.Verdict.the-variants.{Accepted, Refused as RefusedPaper}
-use Rattle.promise.specs.Papers.{accepted-jobs}
 use Rattle.turns.specs.Box.{box}
 use Rattle.turns.specs.View.{entryOf, entriesOf, journalOf, length-journal}
 use Rattle.turns.specs.SerialRun.{cellsOf, ranOn, outputAfter, unlessWrong, serialAnswer, serialTable, Serves}
@@ -39,7 +38,7 @@ use Rattle.turns.specs.declared.block.Journal.{Journal}
 use Rattle.turns.specs.declared.open.Opening.{Opening}
 use Rattle.turns.specs.declared.open.Opening.the-variants.{Accepted as Ran, WrongTable}
 use Rattle.turns.proofs.Laws.Journal.{entry-is}
-use Rattle.turns.proofs.Laws.Accepted.{jobsOf, jobs-long, accepted, few-jobs}
+use Rattle.turns.proofs.Laws.Accepted.{jobsOf, jobs-long, job-is, accepted, few-jobs, all-pass}
 
 -- ---- writes in order
 -- the last value of a journal, from its front
@@ -172,12 +171,6 @@ module _ (start output paper : List ℕ) where
           record { answer = rw (es, eo, ← a) (q ∙ rw e refl); table = rw (es, eo, ← a) refl }
 
       module _ (e : r .verdict ≡ Accepted) where
-        job-is : (k : ℕ) → k < r .count → getD (jobsOf r) k [] ≡ codeOf (getD (r .jobs) k noJob)
-        job-is k l = List·getD-map codeOf (firsts (r .count) noJob (r .jobs)) k noJob ∙ ap codeOf (getD-firsts (r .count) noJob (r .jobs) k l)
-
-        pub serve-pass : AllPass (r .jobs) (r .count)
-        serve-pass = record { pass = λ k l. record { passed = rw (job-is k l) at (accepted-jobs paper (jobsOf r) (sym (accepted paper r er e)) .1 k (rw (jobs-long r) l)) } }
-
         pub serve-ran : (copied after : List ℕ) → copied ≡ start → RunsAll (r .jobs) (r .count) copied after → Serves start output paper Ran after
         unfolding openingOf serialAnswer serialTable unlessWrong outputAfter ranOn
         serve-ran copied after ec ra = record {
@@ -186,6 +179,6 @@ module _ (start output paper : List ℕ) where
         }
           where
             same : serial box (cellsOf copied) (λ k. starting (codeOf (getD (r .jobs) k noJob))) (r .count) ≡ ranOn start (jobsOf r)
-            same = rw (ec, jobs-long r) (serial-same box (cellsOf start) (λ k. starting (codeOf (getD (r .jobs) k noJob))) (λ k. starting (getD (jobsOf r) k [])) (r .count) (λ k l. ap starting (sym (job-is k l))))
+            same = rw (ec, jobs-long r) (serial-same box (cellsOf start) (λ k. starting (codeOf (getD (r .jobs) k noJob))) (λ k. starting (getD (jobsOf r) k [])) (r .count) (λ k l. ap starting (sym (job-is r k l))))
 
-pub ruleset serve-laws = (wrong-start, wrong-output, serve-refused, few-jobs, serve-pass, serve-ran)
+pub ruleset serve-laws = (wrong-start, wrong-output, serve-refused, few-jobs, all-pass, serve-ran)

@@ -1,6 +1,6 @@
 -- The sizes: the tests stand in the definition's order, and in a loop what is left from here decides.
 use mathlib.Core.Path.{_≡_, refl, ap, sym, _∙_}
-use mathlib.Core.Bool.{Bool, true, false, not, cond, _&&_, and-assoc, and-true}
+use mathlib.Core.Bool.{Bool, true, false, cond, _&&_}
 use mathlib.Core.List.{List, [], _∷_}
 use Prim.Native.Nat.{ℕ, zero, suc, _+_, _*_, _-_, _≤_, _<_}
 use native.Mathlib.Omega.{arith}
@@ -8,114 +8,33 @@ use native.Mathlib.Numerals.{add-one}
 use native.Mathlib.Nat.{sub-zero}
 use lib.Dec.{leb, ltb}
 use lib.ListN.{getD}
-use borrow.Author.Tests.{lt-ltb, le-ltb, le-leb, lt-leb, leb-true, eq-eqb, ne-eqb, not-true, not-false}
-use Rattle.theory.specs.Lists.{getD-firsts}
+use borrow.Author.Tests.{lt-ltb, le-ltb, le-leb, lt-leb, leb-true, eq-eqb, ne-eqb}
 use Rattle.theory.specs.Engine.{blockFits}
 use Rattle.machine.specs.Limits.{JOBS}
-use Rattle.machine.specs.Instruction.{known, fits}
-use Rattle.machine.specs.Machine.{stopping, formed}
-use Rattle.machine.specs.View.{codeOf, noJob}
-use Rattle.machine.specs.declared.instruction.Instruction.{Instruction}
-use Rattle.machine.specs.declared.job.Job.{Job}
 use Rattle.machine.specs.declared.job.State.{State}
+use Rattle.turns.specs.Program.{noProgram}
 use Rattle.turns.specs.View.{placeAt, place-low, place-past, markOf, noJournal, noVersions, noRead, noReads}
 use Rattle.turns.specs.Block.{noState, noCheckpoint, blockOf}
 use Rattle.turns.specs.Box.{limits, box}
-use Rattle.turns.specs.Sizes.{passes, instructionWithin, codeWithin, standsIn, entryWithin, entryWithinAt, journalWithin, versionWithinAt, versionsWithin, readWithin, risesFrom, readsWithin, markWithin, jobWithin, jobWithinAt, listed, block-is}
+use Rattle.turns.specs.Sizes.{passes, codeWithin, bytesWithin, keptOf, standsIn, entryWithin, entryWithinAt, journalWithin, versionWithinAt, versionsWithin, readWithin, risesFrom, readsWithin, markWithin, jobWithin, jobWithinAt, listed, bytes-are, block-is}
 use Rattle.turns.specs.declared.block.Entry.{Entry}
 use Rattle.turns.specs.declared.block.Journal.{Journal}
 use Rattle.turns.specs.declared.block.Versions.{Versions}
 use Rattle.turns.specs.declared.block.Read.{Read}
 use Rattle.turns.specs.declared.block.Reads.{Reads}
 use Rattle.turns.specs.declared.block.Checkpoint.{Checkpoint}
+use Rattle.turns.specs.declared.block.Program.{Program}
 use Rattle.turns.specs.declared.block.Block.{Block}
-
--- ---- what a test in the code tells of the definition that it answers
-module _ (b x : Bool) (e : b ≡ x) where
-  pub failed : not b ≡ true → x ≡ false
-  failed t = sym e ∙ not-true b t
-
-  pub held : not b ≡ false → x ≡ true
-  held t = sym e ∙ not-false b t
-
--- ---- place by place
-passes-first : (f : ℕ → Bool) (n k : ℕ) → k < n → f k && passes f (suc k) (n - suc k) ≡ passes f k (n - k)
-unfolding passes
-passes-first f n k l = one (n - suc k) ∙ ap (passes f k) (let w : suc (n - suc k) ≡ n - k = omega arith in w)
-  where
-    one : (m : ℕ) → f k && passes f (suc k) m ≡ passes f k (suc m)
-    one m = refl
-
-module _ (f : ℕ → Bool) (n k : ℕ) (R : Bool) (q : passes f k (n - k) ≡ R) where
-  pub passes-stop : k < n → f k ≡ false → false ≡ R
-  passes-stop l e = (rw e at (passes-first f n k l)) ∙ q
-
-  pub passes-on : k < n → f k ≡ true → passes f (k + 1) (n - (k + 1)) ≡ R
-  passes-on l e = rw (add-one k) ((rw e at (passes-first f n k l)) ∙ q)
-
-  pub passes-end : n ≤ k → true ≡ R
-  unfolding passes
-  passes-end l = none (n - k) (omega arith) ∙ q
-    where
-      none : (m : ℕ) → m ≤ 0 → true ≡ passes f k m
-      none zero w = refl
-      none (suc m) w = absurd (omega arith)
-
--- ---- the instructions
-module _ (n p : ℕ) (i : Instruction) where
-  pub instruction-unknown : known i ≡ false → false ≡ instructionWithin n p i
-  unfolding instructionWithin
-  instruction-unknown e = rw e refl
-
-  pub instruction-operand : (x : Bool) → known i ≡ true → x ≡ fits n p i → x ≡ instructionWithin n p i
-  unfolding instructionWithin
-  instruction-operand x e q = rw e q
-
-pub ruleset instruction-laws = (failed, held, instruction-unknown, instruction-operand)
-
-module _ (j : Job) where
-  pub code-long : 64 < j .size → false ≡ codeWithin j
-  unfolding codeWithin
-  code-long l = rw (lt-leb _ _ l) refl
-
-  pub code-start : j .size ≤ 64 → formed (codeOf j) (j .size) (j .size) ≡ codeWithin j
-  unfolding codeWithin
-  code-start l = rw (le-leb _ _ l) refl
-
-  module _ (p : ℕ) (q : formed (codeOf j) (j .size) p ≡ codeWithin j) where
-    formed-at : 0 < p → p ≤ j .size → formed (codeOf j) (j .size) p ≡ instructionWithin (j .size) (p - 1) (getD (j .code) (p - 1) stopping) && formed (codeOf j) (j .size) (p - 1)
-    unfolding formed instructionWithin
-    formed-at a l = go p a l
-      where
-        go : (p : ℕ) → 0 < p → p ≤ j .size → formed (codeOf j) (j .size) p ≡ known (getD (j .code) (p - 1) stopping) && fits (j .size) (p - 1) (getD (j .code) (p - 1) stopping) && formed (codeOf j) (j .size) (p - 1)
-        go zero a l = absurd (omega arith)
-        go (suc p) a l =
-            let s : suc p - 1 ≡ p = omega arith in
-            rw (s, getD-firsts (j .size) stopping (j .code) p (omega arith)) refl
-
-    pub code-stop : 0 < p → p ≤ j .size → instructionWithin (j .size) (p - 1) (getD (j .code) (p - 1) stopping) ≡ false → false ≡ codeWithin j
-    code-stop a l e = (rw e at (sym (formed-at a l))) ∙ q
-
-    pub code-on : 0 < p → p ≤ j .size → instructionWithin (j .size) (p - 1) (getD (j .code) (p - 1) stopping) ≡ true → formed (codeOf j) (j .size) (p - 1) ≡ codeWithin j
-    code-on a l e = (rw e at (sym (formed-at a l))) ∙ q
-
-    pub code-end : p ≤ 0 → true ≡ codeWithin j
-    unfolding formed
-    code-end l = go p l ∙ q
-      where
-        go : (p : ℕ) → p ≤ 0 → true ≡ formed (codeOf j) (j .size) p
-        go zero l = refl
-        go (suc p) l = absurd (omega arith)
-
-pub ruleset code-laws = (failed, held, code-long, code-start, code-stop, code-on, code-end)
+use Rattle.turns.specs.declared.sizes.Kept.{Kept}
+use Rattle.turns.proofs.Laws.Tests.{failed, held, passes-stop, passes-on, passes-end, Tests, tests-on, tests-end}
 
 -- ---- the state
-module _ (n : ℕ) (s : State) where
-  pub stands-past : n ≤ s .place .0 → false ≡ standsIn n s
+module _ (n p h : ℕ) where
+  pub stands-past : n ≤ p → false ≡ standsIn n p h
   unfolding standsIn
   stands-past l = rw (le-ltb _ _ l) refl
 
-  pub stands-there : s .place .0 < n → leb (s .stack .height) 16 ≡ standsIn n s
+  pub stands-there : p < n → leb h 16 ≡ standsIn n p h
   unfolding standsIn
   stands-there l = rw (lt-ltb _ _ l) refl
 
@@ -154,17 +73,17 @@ module _ (n : ℕ) (v : Versions) where
 pub ruleset versions-laws = (versions-start, versions-stop, versions-on, passes-end)
 
 -- ---- the reads
-module _ (n before i : ℕ) (r : Read) (c : Checkpoint) where
+module _ (n before i : ℕ) (r : Read) (c : Kept) where
   pub read-cell : 256 ≤ r .cell .0 → false ≡ readWithin n before i r c
   unfolding readWithin
   read-cell l = rw (le-ltb _ _ l) refl
 
   module _ (l : r .cell .0 < 256) where
-    pub read-astray : standsIn n (c .state) ≡ false → false ≡ readWithin n before i r c
+    pub read-astray : standsIn n (c .place .0) (c .height) ≡ false → false ≡ readWithin n before i r c
     unfolding readWithin
     read-astray e = rw (lt-ltb _ _ l, e) refl
 
-    module _ (e : standsIn n (c .state) ≡ true) where
+    module _ (e : standsIn n (c .place .0) (c .height) ≡ true) where
       pub read-listed : i < c .listed → false ≡ readWithin n before i r c
       unfolding readWithin
       read-listed m = rw (lt-ltb _ _ l, e, lt-leb _ _ m) refl
@@ -175,7 +94,7 @@ module _ (n before i : ℕ) (r : Read) (c : Checkpoint) where
 
 pub ruleset read-laws = (failed, held, read-cell, read-astray, read-listed, read-writes)
 
-module _ (n entries : ℕ) (rs : Reads) (cs : List Checkpoint) where
+module _ (n entries : ℕ) (rs : Reads) (cs : List Kept) where
   pub reads-long : 8 < rs .size → false ≡ readsWithin n entries rs (listed cs)
   unfolding readsWithin
   reads-long l = rw (lt-leb _ _ l) refl
@@ -185,20 +104,20 @@ module _ (n entries : ℕ) (rs : Reads) (cs : List Checkpoint) where
   reads-start l = rw (le-leb _ _ l, sub-zero) refl
 
   module _ (before i : ℕ) (q : risesFrom n entries rs (listed cs) before i (rs .size - i) ≡ readsWithin n entries rs (listed cs)) where
-    rises-one : i < rs .size → readWithin n before i (getD (rs .reads) i noRead) (getD cs i noCheckpoint) && risesFrom n entries rs (listed cs) (getD cs i noCheckpoint .writes) (suc i) (rs .size - suc i)
+    rises-one : i < rs .size → readWithin n before i (getD (rs .reads) i noRead) (getD cs i (keptOf noCheckpoint)) && risesFrom n entries rs (listed cs) (getD cs i (keptOf noCheckpoint) .writes) (suc i) (rs .size - suc i)
         ≡ readsWithin n entries rs (listed cs)
     unfolding risesFrom
     rises-one l = one (rs .size - suc i) ∙ ap (risesFrom n entries rs (listed cs) before i) (let w : suc (rs .size - suc i) ≡ rs .size - i = omega arith in w) ∙ q
       where
-        one : (m : ℕ) → readWithin n before i (getD (rs .reads) i noRead) (getD cs i noCheckpoint) && risesFrom n entries rs (listed cs) (getD cs i noCheckpoint .writes) (suc i) m
+        one : (m : ℕ) → readWithin n before i (getD (rs .reads) i noRead) (getD cs i (keptOf noCheckpoint)) && risesFrom n entries rs (listed cs) (getD cs i (keptOf noCheckpoint) .writes) (suc i) m
             ≡ risesFrom n entries rs (listed cs) before i (suc m)
         one m = refl
 
-    pub reads-stop : i < rs .size → readWithin n before i (getD (rs .reads) i noRead) (getD cs i noCheckpoint) ≡ false → false ≡ readsWithin n entries rs (listed cs)
+    pub reads-stop : i < rs .size → readWithin n before i (getD (rs .reads) i noRead) (getD cs i (keptOf noCheckpoint)) ≡ false → false ≡ readsWithin n entries rs (listed cs)
     reads-stop l e = rw e at (rises-one l)
 
-    pub reads-on : i < rs .size → readWithin n before i (getD (rs .reads) i noRead) (getD cs i noCheckpoint) ≡ true
-        → risesFrom n entries rs (listed cs) (getD cs i noCheckpoint .writes) (i + 1) (rs .size - (i + 1)) ≡ readsWithin n entries rs (listed cs)
+    pub reads-on : i < rs .size → readWithin n before i (getD (rs .reads) i noRead) (getD cs i (keptOf noCheckpoint)) ≡ true
+        → risesFrom n entries rs (listed cs) (getD cs i (keptOf noCheckpoint) .writes) (i + 1) (rs .size - (i + 1)) ≡ readsWithin n entries rs (listed cs)
     reads-on l e = rw (add-one i) (rw e at (rises-one l))
 
     pub reads-end : rs .size ≤ i → leb before entries ≡ readsWithin n entries rs (listed cs)
@@ -223,17 +142,20 @@ module _ (m n : ℕ) where
 pub ruleset mark-laws = (mark-none, mark-some)
 
 -- ---- the job
-module _ (j : Job) (s : State) (jo : Journal) (v : Versions) (rs : Reads) (cs : List Checkpoint) where
-  pub job-code : codeWithin j ≡ false → false ≡ jobWithin j s jo v rs (listed cs)
+module _ (j : Program) (s : State) (jo : Journal) (v : Versions) (rs : Reads) (cs : List Kept) where
+  pub job-code : bytesWithin (j .codes) (j .arguments) (j .size) ≡ false → false ≡ jobWithin j s jo v rs (listed cs)
   unfolding jobWithin
-  job-code a = rw a refl
+  job-code a = rw (← bytes-are j, a) refl
 
-  module _ (a : codeWithin j ≡ true) where
-    pub job-astray : standsIn (j .size) s ≡ false → false ≡ jobWithin j s jo v rs (listed cs)
+  module _ (fit : bytesWithin (j .codes) (j .arguments) (j .size) ≡ true) where
+    a : codeWithin j ≡ true
+    a = sym (bytes-are j) ∙ fit
+
+    pub job-astray : standsIn (j .size) (s .place .0) (s .stack .height) ≡ false → false ≡ jobWithin j s jo v rs (listed cs)
     unfolding jobWithin
     job-astray b = rw (a, b) refl
 
-    module _ (b : standsIn (j .size) s ≡ true) where
+    module _ (b : standsIn (j .size) (s .place .0) (s .stack .height) ≡ true) where
       pub job-journal : journalWithin jo ≡ false → false ≡ jobWithin j s jo v rs (listed cs)
       unfolding jobWithin
       job-journal c = rw (a, b, c) refl
@@ -256,7 +178,7 @@ pub ruleset job-laws = (failed, held, job-code, job-astray, job-journal, job-ver
 
 -- ---- the block
 -- only the checkpoints of listed reads count
-module _ (n entries : ℕ) (rs : Reads) (cs ds : ℕ → Checkpoint) (same : (i : ℕ) → i < 8 → cs i ≡ ds i) where
+module _ (n entries : ℕ) (rs : Reads) (cs ds : ℕ → Kept) (same : (i : ℕ) → i < 8 → cs i ≡ ds i) where
   rises-same : (before i m : ℕ) → i + m ≤ 8 → risesFrom n entries rs cs before i m ≡ risesFrom n entries rs ds before i m
   unfolding risesFrom
   rises-same before i zero l = refl
@@ -270,15 +192,16 @@ module _ (n entries : ℕ) (rs : Reads) (cs ds : ℕ → Checkpoint) (same : (i 
       go true e = rises-same 0 0 (rs .size) (let w : rs .size ≤ 8 = leb-true (rs .size) 8 e in omega arith)
       go false e = refl
 
--- eight of a list's entries, from place a on
+-- the counts of eight checkpoints, from place a on
 module _ (cs : List Checkpoint) (a : ℕ) where
-  abbrev eight : List Checkpoint
-  eight =
-      getD cs a noCheckpoint ∷ getD cs (a + 1) noCheckpoint ∷ getD cs (a + 2) noCheckpoint ∷ getD cs (a + 3) noCheckpoint
-      ∷ getD cs (a + 4) noCheckpoint ∷ getD cs (a + 5) noCheckpoint ∷ getD cs (a + 6) noCheckpoint ∷ getD cs (a + 7) noCheckpoint ∷ []
+  abbrev keptAt : ℕ → Kept
+  keptAt k = keptOf (getD cs k noCheckpoint)
 
-  eight-at : (i : ℕ) → i < 8 → getD eight i noCheckpoint ≡ getD cs (a + i) noCheckpoint
-  eight-at zero l = ap (λ (x : ℕ). getD cs x noCheckpoint) (let w : a ≡ a + 0 = omega arith in w)
+  abbrev eight : List Kept
+  eight = keptAt a ∷ keptAt (a + 1) ∷ keptAt (a + 2) ∷ keptAt (a + 3) ∷ keptAt (a + 4) ∷ keptAt (a + 5) ∷ keptAt (a + 6) ∷ keptAt (a + 7) ∷ []
+
+  eight-at : (i : ℕ) → i < 8 → getD eight i (keptOf noCheckpoint) ≡ keptAt (a + i)
+  eight-at zero l = ap keptAt (let w : a ≡ a + 0 = omega arith in w)
   eight-at (suc zero) l = refl
   eight-at (suc (suc zero)) l = refl
   eight-at (suc (suc (suc zero))) l = refl
@@ -288,35 +211,40 @@ module _ (cs : List Checkpoint) (a : ℕ) where
   eight-at (suc (suc (suc (suc (suc (suc (suc zero))))))) l = refl
   eight-at (suc (suc (suc (suc (suc (suc (suc (suc i)))))))) l = absurd (omega arith)
 
+pub kept-all : (k0 k1 k2 k3 k4 k5 k6 k7 j0 j1 j2 j3 j4 j5 j6 j7 : Kept)
+    → k0 ≡ j0 → k1 ≡ j1 → k2 ≡ j2 → k3 ≡ j3 → k4 ≡ j4 → k5 ≡ j5 → k6 ≡ j6 → k7 ≡ j7
+    → _≡_ {A = List Kept} (k0 ∷ k1 ∷ k2 ∷ k3 ∷ k4 ∷ k5 ∷ k6 ∷ k7 ∷ []) (j0 ∷ j1 ∷ j2 ∷ j3 ∷ j4 ∷ j5 ∷ j6 ∷ j7 ∷ [])
+kept-all k0 k1 k2 k3 k4 k5 k6 k7 j0 j1 j2 j3 j4 j5 j6 j7 e0 e1 e2 e3 e4 e5 e6 e7 = rw (e0, e1, e2, e3, e4, e5, e6, e7) refl
+
 -- the jobs from the k-th on decide, where those before it did not
 pub record Testing (b : Block) (n k : ℕ) (x : Bool) : Type 0 where
   pub few : n ≤ 16
-  pub low : k ≤ n
-  pub rest : x && passes (jobWithinAt b) k (n - k) ≡ blockFits limits box (blockOf b)
+  pub tests : Tests (jobWithinAt b) n k x (blockFits limits box (blockOf b))
 
 module _ (b : Block) where
   pub test-start : (n : ℕ) → n ≡ cond (leb (b .count) JOBS) (b .count) 0 → Testing b n 0 (leb (b .count) JOBS)
   test-start n e = rw e (go (leb (b .count) JOBS) refl)
     where
       go : (x : Bool) → leb (b .count) JOBS ≡ x → Testing b (cond x (b .count) 0) 0 x
-      go true q = record { few = leb-true (b .count) JOBS q; low = omega arith; rest = sym (block-is b ∙ rw (q, sub-zero) refl) }
-      go false q = record { few = omega arith; low = omega arith; rest = sym (block-is b ∙ rw q refl) }
+      go true q = record { few = leb-true (b .count) JOBS q; tests = record { low = omega arith; rest = sym (block-is b ∙ rw (q, sub-zero) refl) } }
+      go false q = record { few = omega arith; tests = record { low = omega arith; rest = sym (block-is b ∙ rw q refl) } }
 
-  here-is : (k : ℕ) → jobWithin (getD (b .jobs) k noJob) (getD (b .states) k noState) (getD (b .journals) k noJournal) (getD (b .versions) k noVersions) (getD (b .reads) k noReads) (listed (eight (b .checkpoints) (8 * k))) ≡ jobWithinAt b k
+  abbrev hereWith : ℕ → List Kept → Bool
+  hereWith k ks = jobWithin (getD (b .jobs) k noProgram) (getD (b .states) k noState) (getD (b .journals) k noJournal) (getD (b .versions) k noVersions) (getD (b .reads) k noReads) (listed ks)
+
+  here-is : (k : ℕ) → hereWith k (eight (b .checkpoints) (8 * k)) ≡ jobWithinAt b k
   unfolding jobWithin
-  here-is k = rw (reads-same (getD (b .jobs) k noJob .size) (getD (b .journals) k noJournal .size) (getD (b .reads) k noReads) (listed (eight (b .checkpoints) (8 * k))) _ (eight-at (b .checkpoints) (8 * k))) refl
+  here-is k = rw (reads-same (getD (b .jobs) k noProgram .size) (getD (b .journals) k noJournal .size) (getD (b .reads) k noReads) (listed (eight (b .checkpoints) (8 * k))) _ (eight-at (b .checkpoints) (8 * k))) refl
 
   module _ (n k : ℕ) (x : Bool) (g : Testing b n k x) where
-    pub test-on : (l : k < n) (here next : Bool)
-        → here ≡ jobWithin (getD (b .jobs) k noJob) (getD (b .states) k noState) (getD (b .journals) k noJournal) (getD (b .versions) k noVersions) (getD (b .reads) k noReads) (listed (eight (b .checkpoints) (8 * k)))
-        → next ≡ x && here → Testing b n (k + 1) next
-    test-on l here next eh en =
-        record { few = g .few; low = omega (arith, l); rest = rw (en, eh, here-is k, add-one k) (and-assoc x (jobWithinAt b k) (passes (jobWithinAt b) (suc k) (n - suc k)) ∙ ap (λ (y : Bool). x && y) (passes-first (jobWithinAt b) n k l) ∙ g .rest) }
+    pub test-on : (l : k < n) (ks : List Kept) (here next : Bool) → ks ≡ eight (b .checkpoints) (8 * k) → here ≡ hereWith k ks → next ≡ x && here → Testing b n (k + 1) next
+    test-on l ks here next ek eh en =
+        record { few = g .few; tests = tests-on (jobWithinAt b) n k x _ (g .tests) l here next (eh ∙ ap (hereWith k) ek ∙ here-is k) en }
 
     pub test-end : n ≤ k → x ≡ blockFits limits box (blockOf b)
-    test-end l = sym (and-true x) ∙ ap (λ (y : Bool). x && y) (passes-end (jobWithinAt b) n k _ refl l) ∙ g .rest
+    test-end l = tests-end (jobWithinAt b) n k x _ (g .tests) l
 
--- ---- the jobs to be tested, and both of two tests
+-- ---- the jobs to be tested
 module _ (n : ℕ) where
   pub jobs-many : 16 < n → 0 ≡ cond (leb n JOBS) n 0
   jobs-many l = rw (lt-leb n 16 l) refl
@@ -325,12 +253,3 @@ module _ (n : ℕ) where
   jobs-few l = rw (le-leb n 16 l) refl
 
 pub ruleset jobs-laws = (jobs-many, jobs-few)
-
-module _ (x y : Bool) where
-  pub both-held : x ≡ true → y ≡ x && y
-  both-held e = rw e refl
-
-  pub both-failed : x ≡ false → false ≡ x && y
-  both-failed e = rw e refl
-
-pub ruleset both-laws = (both-held, both-failed)

@@ -12,25 +12,27 @@ use lib.Seq.{getD-set-same, getD-set-other}
 use borrow.Author.Tests.{eq-eqb, ne-eqb, lt-ltb, le-leb, lt-leb}
 use Rattle.theory.specs.Engine as E
 use Rattle.machine.specs.Limits.{LONGEST}
-use Rattle.machine.specs.View.{codeOf, noJob}
-use Rattle.machine.specs.declared.job.Job.{Job}
 use Rattle.machine.specs.declared.job.State.{State}
 use Rattle.machine.specs.declared.step.Act.the-variants.{Stuck as StuckAct}
 use Rattle.machine.specs.declared.step.Stepped.{Stepped}
 use Rattle.turns.specs.Box.{box, limits}
+use Rattle.turns.specs.Program.{noProgram, programOf}
 use Rattle.turns.specs.View.{noReads}
 use Rattle.turns.specs.Block.{codeAt, noState, noCheckpoint, blockOf}
 use Rattle.turns.specs.Alone.{StepsIn}
 use Rattle.turns.specs.Marks.{Shown, markReads, sweep, ListsFit}
 use Rattle.turns.specs.Fitting.{count-fit}
 use Rattle.turns.specs.Turn.{moving, foreign, refusing, Did, Turns, Whole}
-use Rattle.turns.specs.Own.{still, slotAt, partsAt, ownOf, showsOf, markedBy, placed, storedAt, Long, Done, Moves, aroundOf, AtTurn, Asks, Ready, StepsIf, MovesIf}
+use Rattle.turns.specs.Own.{still, slotAt, partsAt, ownOf, showsOf, markedBy, placed, storedAt, Long, Done, Moves, aroundOf, AtTurn, Asks, Ready, StepsIf, MovesIf, MayMark}
+use Rattle.turns.specs.Change.{changeBy, Changes}
+use Rattle.turns.specs.declared.block.Program.{Program}
 use Rattle.turns.specs.declared.block.Reads.{Reads}
 use Rattle.turns.specs.declared.block.Block.{Block}
 use Rattle.turns.specs.declared.marks.Shows.{Shows}
 use Rattle.turns.specs.declared.own.Own.{Own}
 use Rattle.turns.specs.declared.own.Around.{Around}
 use Rattle.turns.specs.declared.own.Move.{Move}
+use Rattle.turns.specs.declared.turn.Change.{Change}
 use Rattle.turns.specs.declared.turn.Word.{Word}
 use Rattle.turns.specs.declared.turn.Word.the-variants.{BadTicket, Stuck}
 use Rattle.turns.proofs.Laws.Alone.{not-both}
@@ -117,7 +119,7 @@ module _ (b : Block) (t : ℕ) (mine : foreign (b .count) t ≡ false) (fit : E.
   whole = whole-fit b fit
 
   -- the job stands at one of its instructions
-  pub standing : (i : ℕ) → i ≡ t - 1 → (getD (b .states) i noState .place .0 < getD (b .jobs) i noJob .size) × (getD (b .jobs) i noJob .size ≤ LONGEST)
+  pub standing : (i : ℕ) → i ≡ t - 1 → (getD (b .states) i noState .place .0 < getD (b .jobs) i noProgram .size) × (getD (b .jobs) i noProgram .size ≤ LONGEST)
   standing i ei = rw ei (whole .inside (t - 1) inner, whole .short (t - 1) inner)
 
   module _ (long : Long b) (i s k : ℕ) (ei : i ≡ t - 1) (es : s ≡ slotAt i (getD (b .reads) i noReads .size)) (ek : k ≡ slotAt i (getD (b .reads) i noReads .mark))
@@ -176,6 +178,11 @@ module _ (b : Block) (t : ℕ) (mine : foreign (b .count) t ≡ false) (fit : E.
           checkpoints = length-set (b .checkpoints) s (m .own .slot) ∙ long .checkpoints;
         }
 
+-- what the sweep of a move that marks asks
+pub marking : (m : Move) (o : Own) (ls : List Reads) (n i : ℕ) → MayMark m o ls n i → m .marks ≡ true → (old new : Shows) → old ≡ showsOf o → new ≡ showsOf (m .own)
+    → (n ≤ 16) × ListsFit (set ls i (m .own .list)) n × Shown old × Shown new
+marking m o ls n i h e old new eold enew = (h .count e, h .lists e, rw eold (h .before e), rw enew (h .after e))
+
 -- ---- a turn that may be refused
 pub refusal-ticket : (x : Bool) → x ≡ true → BadTicket ≡ refusing x
 refusal-ticket x q = rw q refl
@@ -189,11 +196,11 @@ module _ (refused : Bool) where
   pub refused-place : (t : ℕ) → refused ≡ true → (refused ≡ false → 0 ≡ t - 1) × (0 < 16)
   refused-place t q = ((λ z. not-both (sym z ∙ q)), omega arith)
 
-  pub refused-step : (j : Job) (s : State) → refused ≡ true → StepsIf refused j s (record { act = StuckAct; state = s })
+  pub refused-step : (j : Program) (s : State) → refused ≡ true → StepsIf refused j s (record { act = StuckAct; state = s })
   refused-step j s q = record { cells = record { low = λ c e. absurd (let z : _≡_ {A = ℕ} 0 1 = cc in omega arith) }; steps = λ z. not-both (sym z ∙ q) }
 
-  pub taken-step : (j : Job) (s : State) (r : Stepped) → StepsIn (codeOf j) s r → StepsIf refused j s r
-  taken-step j s r h = record { cells = steps-cells (codeOf j) s r h; steps = λ q. h }
+  pub taken-step : (j : Program) (s : State) (r : Stepped) → StepsIn (programOf j) s r → StepsIf refused j s r
+  taken-step j s r h = record { cells = steps-cells (programOf j) s r h; steps = λ q. h }
 
   module _ (w : Word) (o : Own) (Q : Block → ℕ → Type 0) (m : Move) where
     pub refused-moves : refused ≡ true → m ≡ still w o → MovesIf refused w o Q m
@@ -225,7 +232,7 @@ module _ (b : Block) (t : ℕ) (fits : Bool) (ef : fits ≡ E.blockFits limits b
   pub few-if : refused ≡ false → (0 < t) × (t ≤ 16)
   few-if q = few-tickets b t (mine-if q) (fit-if q)
 
-  pub standing-if : (i : ℕ) → (refused ≡ false → i ≡ t - 1) → refused ≡ false → (getD (b .states) i noState .place .0 < getD (b .jobs) i noJob .size) × (getD (b .jobs) i noJob .size ≤ LONGEST)
+  pub standing-if : (i : ℕ) → (refused ≡ false → i ≡ t - 1) → refused ≡ false → (getD (b .states) i noState .place .0 < getD (b .jobs) i noProgram .size) × (getD (b .jobs) i noProgram .size ≤ LONGEST)
   standing-if i ei q = standing b t (mine-if q) (fit-if q) i (ei q)
 
   module _ (long : Long b) (i s k : ℕ) (ei : refused ≡ false → i ≡ t - 1) (es : s ≡ slotAt i (getD (b .reads) i noReads .size)) (ek : k ≡ slotAt i (getD (b .reads) i noReads .mark))
@@ -233,20 +240,22 @@ module _ (b : Block) (t : ℕ) (fits : Bool) (ef : fits ≡ E.blockFits limits b
     pub ready-if : refused ≡ false → Ready own around t
     ready-if q = ready b t (mine-if q) (fit-if q) long i s k (ei q) es ek own around eo ea
 
-    module _ (step : Stepped) (steps : StepsIf refused (getD (b .jobs) i noJob) (getD (b .states) i noState) step) (c : ℕ) (asks : Asks step c) (w : Word) (ew : w ≡ refusing (foreign (b .count) t))
+    module _ (step : Stepped) (steps : StepsIf refused (getD (b .jobs) i noProgram) (getD (b .states) i noState) step) (c : ℕ) (asks : Asks step c) (w : Word) (ew : w ≡ refusing (foreign (b .count) t))
         (m : Move) (moves : MovesIf refused w own (AtTurn step around (getD (b .start) c 0) (getD (b .checkpoints) k noCheckpoint) t) m) where
-      pub may-mark-if : m .marks ≡ true → (old new : Shows) → old ≡ showsOf own → new ≡ showsOf (m .own)
-          → (b .count ≤ 16) × ListsFit (set (b .reads) i (m .own .list)) (b .count) × Shown old × Shown new
-      may-mark-if e old new eold enew = go refused refl
+      pub may-mark-if : MayMark m own (b .reads) (b .count) i
+      may-mark-if = record { count = λ e. at e refused refl .0; lists = λ e. at e refused refl .1; before = λ e. at e refused refl .2; after = λ e. at e refused refl .3 }
         where
-          go : (x : Bool) → refused ≡ x → (b .count ≤ 16) × ListsFit (set (b .reads) i (m .own .list)) (b .count) × Shown old × Shown new
-          go true q = let quiet : m .marks ≡ false = rw (moves .stays q) refl in not-both (sym quiet ∙ e)
-          go false q = may-mark b t (mine-if q) (fit-if q) long i s k (ei q) es ek own around eo ea step (steps .steps q) c asks m (moves .moves q) e old new eold enew
+          at : m .marks ≡ true → (x : Bool) → refused ≡ x → (b .count ≤ 16) × ListsFit (set (b .reads) i (m .own .list)) (b .count) × Shown (showsOf own) × Shown (showsOf (m .own))
+          at e true q = let quiet : m .marks ≡ false = rw (moves .stays q) refl in not-both (sym quiet ∙ e)
+          at e false q = may-mark b t (mine-if q) (fit-if q) long i s k (ei q) es ek own around eo ea step (steps .steps q) c asks m (moves .moves q) e _ _ refl refl
 
-      pub turned-if : (ls : List Reads) → ls ≡ markedBy (m .marks) (set (b .reads) i (m .own .list)) (b .count) (showsOf own) (showsOf (m .own)) t
+      turned-if : (ls : List Reads) → ls ≡ markedBy (m .marks) (set (b .reads) i (m .own .list)) (b .count) (showsOf own) (showsOf (m .own)) t
           → Turns b t (record { word = m .word; block = storedAt b i s m ls })
       turned-if ls el = go refused refl
         where
           go : (x : Bool) → refused ≡ x → Turns b t (record { word = m .word; block = storedAt b i s m ls })
           go true q = stored-refused b t i s fits ef (sym er ∙ q) own eo m (moves .stays q ∙ ap (λ (x : Word). still x own) ew) ls el
           go false q = stored-turn b t (mine-if q) (fit-if q) long i s k (ei q) es ek own around eo ea step (steps .steps q) c asks m (moves .moves q) ls el
+
+      pub changes-if : i < 16 → s < 128 → (r : Change) → r ≡ changeBy i s m (markedBy (m .marks) (set (b .reads) i (m .own .list)) (b .count) (showsOf own) (showsOf (m .own)) t) → Changes b t r
+      changes-if li ls r e = rw e (record { place = li; slot = ls; turns = turned-if _ refl })

@@ -97,20 +97,20 @@ own-of-requires c κs = search needs
 around-of-requires : tie.Need-around-of-requires Inv-loop μ-loop
 around-of-requires c κs = search needs
 
-mul-instruct-at : tie.Need-mul-instruct-at Inv-loop μ-loop
-mul-instruct-at c = search (c .before .before .before .before .before .before .before .before .before .before .before .before .before .place-of .ensures .1, needs)
+mul-program-step : tie.Need-mul-program-step Inv-loop μ-loop
+mul-program-step c = search (c .before .before .before .before .before .before .before .before .before .before .before .before .before .place-of .ensures .1, needs)
 
-element-copy-out-instruct-at : tie.Need-element-copy-out-instruct-at Inv-loop μ-loop
-element-copy-out-instruct-at c = search (c .before .before .before .before .before .before .before .before .before .before .before .before .before .place-of .ensures .1, needs)
+element-copy-out-program-step : tie.Need-element-copy-out-program-step Inv-loop μ-loop
+element-copy-out-program-step c = search (c .before .before .before .before .before .before .before .before .before .before .before .before .before .place-of .ensures .1, needs)
 
-mul-instruct-at-2 : tie.Need-mul-instruct-at-2 Inv-loop μ-loop
-mul-instruct-at-2 c = search (c .before .before .before .before .before .before .before .before .before .before .before .before .before .before .place-of .ensures .1, needs)
+mul-program-step-2 : tie.Need-mul-program-step-2 Inv-loop μ-loop
+mul-program-step-2 c = search (c .before .before .before .before .before .before .before .before .before .before .before .before .before .before .place-of .ensures .1, needs)
 
-element-copy-out-instruct-at-2 : tie.Need-element-copy-out-instruct-at-2 Inv-loop μ-loop
-element-copy-out-instruct-at-2 c = search (c .before .before .before .before .before .before .before .before .before .before .before .before .before .before .place-of .ensures .1, needs)
+element-copy-out-program-step-2 : tie.Need-element-copy-out-program-step-2 Inv-loop μ-loop
+element-copy-out-program-step-2 c = search (c .before .before .before .before .before .before .before .before .before .before .before .before .before .before .place-of .ensures .1, needs)
 
-instruct-at-requires : tie.Need-instruct-at-requires Inv-loop μ-loop
-instruct-at-requires c κs =
+program-step-requires : tie.Need-program-step-requires Inv-loop μ-loop
+program-step-requires c κs =
     let c₁ = c .before .before .before .before .before .before .before .before .before .before .before .before .before .before .before in
     let c₂ = c₁ .before in
     let c₃ = c₂ .before in
@@ -123,7 +123,7 @@ instruct-at-requires c κs =
     standing _ t (free .0) fit _ (c₁ .place-of .ensures .0)
 
 cell-read-requires : tie.Need-cell-read-requires Inv-loop μ-loop
-cell-read-requires c κs = steps-cells _ _ _ (c .instruct-at .ensures)
+cell-read-requires c κs = steps-cells _ _ _ (c .program-step .ensures)
 
 mul-first : tie.Need-mul-first Inv-loop μ-loop
 mul-first c = search (c .cell-read .ensures .low, needs)
@@ -221,7 +221,7 @@ mark-above-requires c κs =
     let free = not-refused _ (c₁₃ .loop .b .count) t _ (c₁₂ .is-refused .ensures) (c₁₁ .if1 .left) in
     let fit = sym (g .fitting) ∙ free .1 in
     may-mark _ t (free .0) fit (g .long) _ _ _ (c₁₀ .place-of .ensures .0) (c₉ .slot-of .ensures .0) (c₈ .slot-of2 .ensures .0) _ _ (c₇ .own-of .ensures)
-    (c₆ .around-of .ensures) _ (c₅ .instruct-at .ensures) _ (c₄ .cell-read .ensures) _ (c₃ .take-own .ensures) (c₂ .if2 .taken) _ _ (c₁ .shows-of .ensures) (c .shows-of2 .ensures)
+    (c₆ .around-of .ensures) _ (c₅ .program-step .ensures) _ (c₄ .cell-read .ensures) _ (c₃ .take-own .ensures) (c₂ .if2 .taken) _ _ (c₁ .shows-of .ensures) (c .shows-of2 .ensures)
 
 loop-less-2 : tie.Need-loop-less-2 Inv-loop μ-loop
 loop-less-2 c = search (c .before .before .before .before .before .before .before .before .before .before .before .before .before .before .before .before .before .before .before .before .before .before .before .before .before .before .before .before .before .before .before .before .before .before .before .before .loop-test .taken, needs)
@@ -251,10 +251,10 @@ loop-again-2 c =
     let fit = sym (g .fitting) ∙ free .1 in
     loop-taken _ _ _ _ _ _ g (c₁₅ .loop-test .taken) _ _ (free .1)
     (stored-turn _ t (free .0) fit (g .long) _ _ _ (c₁₂ .place-of .ensures .0) (c₁₁ .slot-of .ensures .0) (c₁₀ .slot-of2 .ensures .0) _ _ (c₉ .own-of .ensures)
-    (c₈ .around-of .ensures) _ (c₇ .instruct-at .ensures) _ (c₆ .cell-read .ensures) _ (c₅ .take-own .ensures) _
+    (c₈ .around-of .ensures) _ (c₇ .program-step .ensures) _ (c₆ .cell-read .ensures) _ (c₅ .take-own .ensures) _
     (marked-by _ _ _ _ _ _ _ _ _ (c₃ .if2 .taken) (c₂ .shows-of .ensures) (c₁ .shows-of2 .ensures) (c .mark-above .ensures)))
     (stored-long _ t (free .0) fit (g .long) _ _ _ (c₁₂ .place-of .ensures .0) (c₁₁ .slot-of .ensures .0) (c₁₀ .slot-of2 .ensures .0) _ _ (c₉ .own-of .ensures)
-    (c₈ .around-of .ensures) _ (c₇ .instruct-at .ensures) _ (c₆ .cell-read .ensures) _ (c₅ .take-own .ensures) _
+    (c₈ .around-of .ensures) _ (c₇ .program-step .ensures) _ (c₆ .cell-read .ensures) _ (c₅ .take-own .ensures) _
     (marked-by _ _ _ _ _ _ _ _ _ (c₃ .if2 .taken) (c₂ .shows-of .ensures) (c₁ .shows-of2 .ensures) (c .mark-above .ensures)))
     (c₄ .byte-after .ensures)
 
@@ -283,9 +283,9 @@ loop-again-3 c =
     let fit = sym (g .fitting) ∙ free .1 in
     loop-taken _ _ _ _ _ _ g (c₁₂ .loop-test .taken) _ _ (free .1)
     (stored-turn _ t (free .0) fit (g .long) _ _ _ (c₉ .place-of .ensures .0) (c₈ .slot-of .ensures .0) (c₇ .slot-of2 .ensures .0) _ _ (c₆ .own-of .ensures)
-    (c₅ .around-of .ensures) _ (c₄ .instruct-at .ensures) _ (c₃ .cell-read .ensures) _ (c₂ .take-own .ensures) _ (unmarked-by _ _ _ _ _ _ (c .if2 .left)))
+    (c₅ .around-of .ensures) _ (c₄ .program-step .ensures) _ (c₃ .cell-read .ensures) _ (c₂ .take-own .ensures) _ (unmarked-by _ _ _ _ _ _ (c .if2 .left)))
     (stored-long _ t (free .0) fit (g .long) _ _ _ (c₉ .place-of .ensures .0) (c₈ .slot-of .ensures .0) (c₇ .slot-of2 .ensures .0) _ _ (c₆ .own-of .ensures)
-    (c₅ .around-of .ensures) _ (c₄ .instruct-at .ensures) _ (c₃ .cell-read .ensures) _ (c₂ .take-own .ensures) _ (unmarked-by _ _ _ _ _ _ (c .if2 .left)))
+    (c₅ .around-of .ensures) _ (c₄ .program-step .ensures) _ (c₃ .cell-read .ensures) _ (c₂ .take-own .ensures) _ (unmarked-by _ _ _ _ _ _ (c .if2 .left)))
     (c₁ .byte-after .ensures)
 
 same-length : tie.Need-same-length Inv-loop μ-loop
@@ -323,11 +323,11 @@ take-all-spec =
     element-copy-out-own-of-3
     own-of-requires
     around-of-requires
-    mul-instruct-at
-    element-copy-out-instruct-at
-    mul-instruct-at-2
-    element-copy-out-instruct-at-2
-    instruct-at-requires
+    mul-program-step
+    element-copy-out-program-step
+    mul-program-step-2
+    element-copy-out-program-step-2
+    program-step-requires
     cell-read-requires
     mul-first
     element-copy-out-first

@@ -1,5 +1,5 @@
 -- 12 returns before the paper is read, and a refused paper leaves no jobs;
--- an accepted one opens its own jobs, each at its start.
+-- an accepted one opens its own jobs, in bytes, each at its start.
 use borrow.Author.Needs.{needs}
 use Rattle.turns.proofs.Laws.Open.{open-laws}
 use Rattle.turns.proofs.open.open.Statement.{statement}
@@ -35,6 +35,9 @@ returns-2 c = search (open-laws, needs)
 table-of-requires : tie.Need-table-of-requires
 table-of-requires c κs = search needs
 
+programs-of-requires : tie.Need-programs-of-requires
+programs-of-requires c κs = search (open-laws, needs)
+
 fresh-block-requires : tie.Need-fresh-block-requires
 fresh-block-requires c κs = search (open-laws, needs)
 
@@ -55,5 +58,6 @@ open-spec =
     refuse-opening-requires
     returns-2
     table-of-requires
+    programs-of-requires
     fresh-block-requires
     returns-3)

@@ -19,9 +19,6 @@ jobs-in-requires c κs = search needs
 loop-holds : tie.Need-loop-holds Inv-loop μ-loop
 loop-holds c = test-start _ _ (c .jobs-in .ensures)
 
-cast-n : tie.Need-cast-n Inv-loop μ-loop
-cast-n c = search (array-laws, c .before .loop .inv .few, c .loop-test .taken, needs)
-
 mul-at : tie.Need-mul-at Inv-loop μ-loop
 mul-at c = search (array-laws, c .before .loop .inv .few, c .loop-test .taken, needs)
 
@@ -94,35 +91,38 @@ mul-c7 c = search (array-laws, c .before .before .before .before .before .before
 element-copy-out-c7 : tie.Need-element-copy-out-c7 Inv-loop μ-loop
 element-copy-out-c7 c = search (array-laws, c .before .before .before .before .before .before .before .before .loop .inv .few, c .before .before .before .before .before .before .before .loop-test .taken, needs)
 
+kept-of-requires : tie.Need-kept-of-requires Inv-loop μ-loop
+kept-of-requires c κs = search needs
+
 mul-held : tie.Need-mul-held Inv-loop μ-loop
-mul-held c = search (array-laws, c .before .before .before .before .before .before .before .before .before .loop .inv .few, c .before .before .before .before .before .before .before .before .loop-test .taken, needs)
+mul-held c = search (array-laws, c .before .before .before .before .before .before .before .before .before .before .loop .inv .few, c .before .before .before .before .before .before .before .before .before .loop-test .taken, needs)
 
 element-copy-out-held : tie.Need-element-copy-out-held Inv-loop μ-loop
-element-copy-out-held c = search (array-laws, c .before .before .before .before .before .before .before .before .before .loop .inv .few, c .before .before .before .before .before .before .before .before .loop-test .taken, needs)
+element-copy-out-held c = search (array-laws, c .before .before .before .before .before .before .before .before .before .before .loop .inv .few, c .before .before .before .before .before .before .before .before .before .loop-test .taken, needs)
 
 mul-list : tie.Need-mul-list Inv-loop μ-loop
-mul-list c = search (array-laws, c .before .before .before .before .before .before .before .before .before .before .loop .inv .few, c .before .before .before .before .before .before .before .before .before .loop-test .taken, needs)
+mul-list c = search (array-laws, c .before .before .before .before .before .before .before .before .before .before .before .loop .inv .few, c .before .before .before .before .before .before .before .before .before .before .loop-test .taken, needs)
 
 element-copy-out-list : tie.Need-element-copy-out-list Inv-loop μ-loop
-element-copy-out-list c = search (array-laws, c .before .before .before .before .before .before .before .before .before .before .loop .inv .few, c .before .before .before .before .before .before .before .before .before .loop-test .taken, needs)
+element-copy-out-list c = search (array-laws, c .before .before .before .before .before .before .before .before .before .before .before .loop .inv .few, c .before .before .before .before .before .before .before .before .before .before .loop-test .taken, needs)
 
 mul-job-fits : tie.Need-mul-job-fits Inv-loop μ-loop
-mul-job-fits c = search (array-laws, c .before .before .before .before .before .before .before .before .before .before .before .loop .inv .few, c .before .before .before .before .before .before .before .before .before .before .loop-test .taken, needs)
+mul-job-fits c = search (array-laws, c .before .before .before .before .before .before .before .before .before .before .before .before .loop .inv .few, c .before .before .before .before .before .before .before .before .before .before .before .loop-test .taken, needs)
 
 element-copy-out-job-fits : tie.Need-element-copy-out-job-fits Inv-loop μ-loop
-element-copy-out-job-fits c = search (array-laws, c .before .before .before .before .before .before .before .before .before .before .before .loop .inv .few, c .before .before .before .before .before .before .before .before .before .before .loop-test .taken, needs)
+element-copy-out-job-fits c = search (array-laws, c .before .before .before .before .before .before .before .before .before .before .before .before .loop .inv .few, c .before .before .before .before .before .before .before .before .before .before .before .loop-test .taken, needs)
 
 mul-job-fits-2 : tie.Need-mul-job-fits-2 Inv-loop μ-loop
-mul-job-fits-2 c = search (array-laws, c .before .before .before .before .before .before .before .before .before .before .before .before .loop .inv .few, c .before .before .before .before .before .before .before .before .before .before .before .loop-test .taken, needs)
+mul-job-fits-2 c = search (array-laws, c .before .before .before .before .before .before .before .before .before .before .before .before .before .loop .inv .few, c .before .before .before .before .before .before .before .before .before .before .before .before .loop-test .taken, needs)
 
 element-copy-out-job-fits-2 : tie.Need-element-copy-out-job-fits-2 Inv-loop μ-loop
-element-copy-out-job-fits-2 c = search (array-laws, c .before .before .before .before .before .before .before .before .before .before .before .before .loop .inv .few, c .before .before .before .before .before .before .before .before .before .before .before .loop-test .taken, needs)
+element-copy-out-job-fits-2 c = search (array-laws, c .before .before .before .before .before .before .before .before .before .before .before .before .before .loop .inv .few, c .before .before .before .before .before .before .before .before .before .before .before .before .loop-test .taken, needs)
 
 mul-job-fits-3 : tie.Need-mul-job-fits-3 Inv-loop μ-loop
-mul-job-fits-3 c = search (array-laws, c .before .before .before .before .before .before .before .before .before .before .before .before .before .loop .inv .few, c .before .before .before .before .before .before .before .before .before .before .before .before .loop-test .taken, needs)
+mul-job-fits-3 c = search (array-laws, c .before .before .before .before .before .before .before .before .before .before .before .before .before .before .loop .inv .few, c .before .before .before .before .before .before .before .before .before .before .before .before .before .loop-test .taken, needs)
 
 element-copy-out-job-fits-3 : tie.Need-element-copy-out-job-fits-3 Inv-loop μ-loop
-element-copy-out-job-fits-3 c = search (array-laws, c .before .before .before .before .before .before .before .before .before .before .before .before .before .loop .inv .few, c .before .before .before .before .before .before .before .before .before .before .before .before .loop-test .taken, needs)
+element-copy-out-job-fits-3 c = search (array-laws, c .before .before .before .before .before .before .before .before .before .before .before .before .before .before .loop .inv .few, c .before .before .before .before .before .before .before .before .before .before .before .before .before .loop-test .taken, needs)
 
 job-fits-requires : tie.Need-job-fits-requires Inv-loop μ-loop
 job-fits-requires c κs = search needs
@@ -131,17 +131,18 @@ both-requires : tie.Need-both-requires Inv-loop μ-loop
 both-requires c κs = search needs
 
 add-k : tie.Need-add-k Inv-loop μ-loop
-add-k c = search (array-laws, c .before .before .before .before .before .before .before .before .before .before .before .before .before .before .before .before .loop .inv .few, c .before .before .before .before .before .before .before .before .before .before .before .before .before .before .before .loop-test .taken, needs)
+add-k c = search (array-laws, c .before .before .before .before .before .before .before .before .before .before .before .before .before .before .before .before .before .loop .inv .few, c .before .before .before .before .before .before .before .before .before .before .before .before .before .before .before .before .loop-test .taken, needs)
 
 loop-less : tie.Need-loop-less Inv-loop μ-loop
-loop-less c = search (c .before .before .before .before .before .before .before .before .before .before .before .before .before .before .before .loop-test .taken, needs)
+loop-less c = search (c .before .before .before .before .before .before .before .before .before .before .before .before .before .before .before .before .loop-test .taken, needs)
 
 loop-again : tie.Need-loop-again Inv-loop μ-loop
 loop-again c =
     let c₁ = c .before in
-    let c₂ = c₁ .before .before .before .before .before .before .before .before .before .before .before .before .before .before in
-    let c₃ = c₂ .before in
-    test-on _ _ _ _ (c₃ .loop .inv) (c₂ .loop-test .taken) _ _ (c₁ .job-fits .ensures) (c .both .ensures)
+    let c₂ = c₁ .before .before .before .before .before .before in
+    let c₃ = c₂ .before .before .before .before .before .before .before .before .before in
+    let c₄ = c₃ .before in
+    test-on _ _ _ _ (c₄ .loop .inv) (c₃ .loop-test .taken) _ _ _ (c₂ .kept-of .ensures) (c₁ .job-fits .ensures) (c .both .ensures)
 
 returns : tie.Need-returns Inv-loop μ-loop
 returns c = test-end _ _ _ _ (c .before .loop .inv) (search (c .loop-test .left, needs))
@@ -154,7 +155,6 @@ block-fits-spec =
     μ-loop
     jobs-in-requires
     loop-holds
-    cast-n
     mul-at
     mul-c0
     element-copy-out-c0
@@ -179,6 +179,7 @@ block-fits-spec =
     add-c7
     mul-c7
     element-copy-out-c7
+    kept-of-requires
     mul-held
     element-copy-out-held
     mul-list

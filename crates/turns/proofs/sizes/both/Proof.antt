@@ -1,7 +1,7 @@
 -- The second counts only where the first holds,
 -- as in the definition.
 use borrow.Author.Needs.{needs}
-use Rattle.turns.proofs.Laws.Sizes.{both-laws}
+use Rattle.turns.proofs.Laws.Tests.{both-laws}
 use Rattle.turns.proofs.sizes.both.Statement.{statement}
 use Rattle.turns.proofs.sizes.both.Tie as tie
 

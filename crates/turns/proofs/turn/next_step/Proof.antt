@@ -7,11 +7,11 @@ use Rattle.turns.proofs.turn.next_step.Tie as tie
 returns : tie.Need-returns
 returns c = refused-step _ _ _ (c .if1 .taken)
 
-instruct-at-requires : tie.Need-instruct-at-requires
-instruct-at-requires c κs = c .before .pre (c .if1 .left)
+program-step-requires : tie.Need-program-step-requires
+program-step-requires c κs = c .before .pre (c .if1 .left)
 
 returns-2 : tie.Need-returns-2
-returns-2 c = taken-step _ _ _ _ (c .instruct-at .ensures)
+returns-2 c = taken-step _ _ _ _ (c .program-step .ensures)
 
 pub next-step-spec : {M : Type 1} → statement M
-next-step-spec = tie.close (tie.spec returns instruct-at-requires returns-2)
+next-step-spec = tie.close (tie.spec returns program-step-requires returns-2)
