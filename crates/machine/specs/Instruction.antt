@@ -15,6 +15,9 @@ ABANDON = 1
 abbrev pub PUSH : ℕ
 PUSH = 2
 
+abbrev pub DUP : ℕ
+DUP = 4
+
 abbrev pub SWAP : ℕ
 SWAP = 5
 

@@ -10,7 +10,7 @@ use borrow.Author.Tests.{eqb-true}
 use Rattle.theory.specs.Lists.{tab, length-tab}
 use Rattle.theory.specs.Engine as E
 use Rattle.machine.specs.Limits.{LONGEST, ROOM, FEW, JOBS, CELLS}
-use Rattle.machine.specs.Instruction.{PUSH, known, fits}
+use Rattle.machine.specs.Instruction.{PUSH, DUP, SWAP, JUMP, known, fits}
 use Rattle.machine.specs.Machine.{Running, formed, sizes}
 use Rattle.machine.specs.View.{length-tops}
 use Rattle.machine.specs.declared.instruction.Instruction.{Instruction}
@@ -41,9 +41,9 @@ instructionWithin n p i = known i && fits n p i
 unfoldable pub codeWithin : Program → Bool
 codeWithin j = leb (j .size) LONGEST && formed (programOf j) (j .size) (j .size)
 
--- by code: what the jumps have, 12 and 13; what DUP and SWAP have, 4 and 5; and what all others have
+-- by code: what the jumps have, which come last; what DUP and SWAP have; and what all others have
 unfoldable pub byCode : ℕ → ℕ → ℕ → ℕ → ℕ
-byCode c jump count other = cond (ltb 11 c) jump (cond (ltb 5 c) other (cond (ltb 3 c) count other))
+byCode c jump count other = cond (leb JUMP c) jump (cond (ltb SWAP c) other (cond (leb DUP c) count other))
 
 -- an instruction by its code and its argument, of which PUSH has none
 unfoldable pub keepsAt : ℕ → ℕ → ℕ → ℕ → Bool
@@ -210,6 +210,12 @@ pub job-is : (b : Block) (k : ℕ) → E.jobFits limits box (jobOf b k) ≡ jobW
 unfolding jobOf readsOf
 job-is b k = parts-are (getD (b .jobs) k noProgram) (getD (b .states) k noState) (getD (b .journals) k noJournal) (getD (b .versions) k noVersions) (getD (b .reads) k noReads) _ _
 
+pub block-is : (b : Block) → E.blockFits limits box (blockOf b) ≡ leb (b .count) JOBS && passes (jobWithinAt b) 0 (b .count)
+unfolding E.blockFits blockOf
+block-is b =
+    rw (length-tab (b .count) (jobOf b))
+    (ap (λ (t : Bool). leb (b .count) JOBS && t) (all-tab (E.jobFits limits box) (b .count) (jobOf b) ∙ passes-same _ _ (job-is b) 0 (b .count)))
+
 -- ---- the instructions, by their bytes
 passes-last : (f : ℕ → Bool) (k m : ℕ) → passes f k (suc m) ≡ f (k + m) && passes f k m
 unfolding passes
@@ -248,9 +254,3 @@ module _ (j : Program) where
   pub bytes-are : bytesWithin (j .codes) (j .arguments) (j .size) ≡ codeWithin j
   unfolding bytesWithin codeWithin
   bytes-are = rw (formed-is (j .size) (omega arith), passes-same _ _ keeps-is 0 (j .size)) refl
-
-pub block-is : (b : Block) → E.blockFits limits box (blockOf b) ≡ leb (b .count) JOBS && passes (jobWithinAt b) 0 (b .count)
-unfolding E.blockFits blockOf
-block-is b =
-    rw (length-tab (b .count) (jobOf b))
-    (ap (λ (t : Bool). leb (b .count) JOBS && t) (all-tab (E.jobFits limits box) (b .count) (jobOf b) ∙ passes-same _ _ (job-is b) 0 (b .count)))

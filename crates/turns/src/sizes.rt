@@ -29,13 +29,13 @@ ghost use Rattle.turns.specs.Sizes.{byCode, keepsAt, bytesWithin, keptOf
 fn by_code(code: u8, jump: u8, count: u8, other: u8) -> u8
     ensures { λ r. ⌜ r ≡ byCode code jump count other ⌝ }
 {
-    if 11 < code {
+    if Instruction::JUMP <= code {
         return jump;
     }
-    if 5 < code {
+    if Instruction::SWAP < code {
         return other;
     }
-    if 3 < code {
+    if Instruction::DUP <= code {
         return count;
     }
     other
@@ -51,7 +51,7 @@ fn keeps(code: u8, argument: u8, next: u8, size: u8) -> bool
     let within = both(above, below);
     let any = code == Instruction::PUSH;
     let free = either(any, within);
-    both(code <= 13, free)
+    both(code <= Instruction::JUMPZERO, free)
 }
 
 // The place after each: a count would be compared eight bytes wide.

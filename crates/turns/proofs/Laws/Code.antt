@@ -13,28 +13,28 @@ use lib.ListN.{length, getD, set, replicate, length-set}
 use lib.Seq.{ext-getD, getD-set-same, getD-set-other}
 use borrow.Author.Tests.{lt-ltb, le-ltb, le-leb, lt-leb, ne-eqb}
 use Rattle.theory.specs.Lists.{tab, getD-tab}
-use Rattle.machine.specs.Instruction.{known, fits}
+use Rattle.machine.specs.Instruction.{DUP, SWAP, JUMP, known, fits}
 use Rattle.turns.specs.Sizes.{instructionWithin, byCode, keepsAt, bytesWithin}
 use Rattle.turns.proofs.Laws.Tests.{Tests, tests-on}
 
 -- ---- by code
 module _ (c jump count other : ℕ) where
-  pub code-jump : 11 < c → jump ≡ byCode c jump count other
+  pub code-jump : JUMP ≤ c → jump ≡ byCode c jump count other
   unfolding byCode
-  code-jump l = rw (lt-ltb _ _ l) refl
+  code-jump l = rw (le-leb JUMP c l) refl
 
-  module _ (l : c ≤ 11) where
-    pub code-high : 5 < c → other ≡ byCode c jump count other
+  module _ (l : c < JUMP) where
+    pub code-high : SWAP < c → other ≡ byCode c jump count other
     unfolding byCode
-    code-high m = rw (le-ltb _ _ l, lt-ltb _ _ m) refl
+    code-high m = rw (lt-leb JUMP c l, lt-ltb SWAP c m) refl
 
-    pub code-count : c ≤ 5 → 3 < c → count ≡ byCode c jump count other
+    pub code-count : c ≤ SWAP → DUP ≤ c → count ≡ byCode c jump count other
     unfolding byCode
-    code-count m q = rw (le-ltb _ _ l, le-ltb _ _ m, lt-ltb _ _ q) refl
+    code-count m q = rw (lt-leb JUMP c l, le-ltb SWAP c m, le-leb DUP c q) refl
 
-    pub code-low : c ≤ 5 → c ≤ 3 → other ≡ byCode c jump count other
+    pub code-low : c ≤ SWAP → c < DUP → other ≡ byCode c jump count other
     unfolding byCode
-    code-low m q = rw (le-ltb _ _ l, le-ltb _ _ m, le-ltb _ _ q) refl
+    code-low m q = rw (lt-leb JUMP c l, le-ltb SWAP c m, lt-leb DUP c q) refl
 
 pub ruleset by-code-laws = (code-jump, code-high, code-count, code-low)
 

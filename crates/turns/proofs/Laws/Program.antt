@@ -13,7 +13,7 @@ use borrow.Author.Tests.{leb-true, ltb-true, lt-ltb, le-ltb, eq-eqb, ne-eqb}
 use Rattle.theory.specs.Lists.{firsts, length-firsts, getD-firsts, tab, length-tab, getD-tab, tab-same}
 use Rattle.theory.specs.ReadSizes.{both}
 use Rattle.machine.specs.Limits.{LONGEST, ROOM}
-use Rattle.machine.specs.Instruction.{PUSH}
+use Rattle.machine.specs.Instruction.{DUP, SWAP, JUMP}
 use Rattle.machine.specs.Machine.{stopping, starting, formed, sizes}
 use Rattle.machine.specs.View.{stateOf, codeOf, noJob, Steps}
 use Rattle.machine.specs.declared.instruction.Instruction.{Instruction}
@@ -30,7 +30,7 @@ use Rattle.turns.proofs.Laws.Code.{bounds-are}
 -- ---- a byte holds an operand that is not PUSH's
 limit-low : (c n : ℕ) → n ≤ 64 → byCode c n 16 1 ≤ 64
 unfolding byCode
-limit-low c n l = go (ltb 11 c) (ltb 5 c) (ltb 3 c)
+limit-low c n l = go (leb JUMP c) (ltb SWAP c) (leb DUP c)
   where
     go : (x y z : Bool) → cond x n (cond y 1 (cond z 16 1)) ≤ 64
     go true y z = l
