@@ -153,7 +153,7 @@ pub(crate) fn with_versions(b: Block, k: usize, size: u8) -> Block
     requires { ⌜ k < 16 ⌝ }
 {
     let mut v = b.versions[k];
-    v.places = [0; 8];
+    v.numbers = [0; 8];
     v.size = size;
     let mut r = b;
     r.versions[k] = v;
@@ -164,7 +164,7 @@ pub(crate) fn with_version(b: Block, k: usize, at: usize, entry: u8) -> Block
     requires { ⌜ (k < 16) × (at < 8) ⌝ }
 {
     let mut v = b.versions[k];
-    v.places[at] = entry;
+    v.numbers[at] = entry;
     let mut r = b;
     r.versions[k] = v;
     r

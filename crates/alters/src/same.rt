@@ -71,7 +71,7 @@ fn same_journal(a: Journal, b: Journal) -> bool {
 fn same_versions(a: Versions, b: Versions) -> bool {
     let mut k: usize = 0;
     while k < 8 {
-        if a.places[k] != b.places[k] {
+        if a.numbers[k] != b.numbers[k] {
             return false;
         }
         k = k + 1;

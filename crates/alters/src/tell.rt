@@ -6,7 +6,7 @@ use machine::counts::Ticket;
 use turns::block::Block;
 use turns::settled::Settling;
 use turns::settled::settled_table;
-use turns::turn::Word;
+use turns::word::Word;
 use turns::turn::turn;
 
 // What each cell of a lent table holds: no block here settles a cell to it.

@@ -1,11 +1,15 @@
 // The by-value turn in a loop, for the benchmark: every turn hands the whole block over and gets it back.
+use garvolish::number::number_of_opening;
 use machine::counts::Ticket;
-use turns::many::byte_of;
 use turns::open::open;
 use turns::turn::turn;
 ghost use Rattle.by_value.specs.Hands.{HandsOver};
 
-// Opens a paper and takes the turns of a list of tickets, a byte for each; 15 if there is not a byte for each.
+// The answer where there is not a byte for each ticket.
+const WRONG_LENGTH: u32 = 15;
+
+// Opens a paper and takes the turns of a list of tickets, a byte for each. An opening that is refused answers as garvolish_open
+// does; then 15 if there is not a byte for each. The bytes are then as they were.
 #[no_mangle]
 pub extern "C" fn garvolish_by_value(
     start: &[u64],
@@ -15,10 +19,15 @@ pub extern "C" fn garvolish_by_value(
 ) -> u32
     ensures { λ r. ⌜ HandsOver (now (start .entry)) (now (paper .entry)) (now (tickets .entry)) (now (words .entry)) r (now (words .exit)) ⌝ }
 {
-    if words.len() != tickets.len() {
-        return 15;
-    }
     let opened = open(start, paper);
+    let answer = opened.answer;
+    let number = number_of_opening(answer);
+    if number != 0 {
+        return number;
+    }
+    if words.len() != tickets.len() {
+        return WRONG_LENGTH;
+    }
     let mut block = opened.block;
     let mut k: usize = 0;
     while k < tickets.len() {
@@ -26,7 +35,7 @@ pub extern "C" fn garvolish_by_value(
         k = k + 1;
         let done = turn(block, Ticket(tickets[at]));
         let word = done.word;
-        words[at] = byte_of(word);
+        words[at] = word.byte();
         block = done.block;
     }
     0

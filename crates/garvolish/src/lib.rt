@@ -1,5 +1,5 @@
 // The engine for callers in C: each function works on the caller's own block or table, and answers a number.
-mod number;
+pub mod number;
 
 use crate::number::number_of_word;
 use crate::number::open_number;
@@ -27,7 +27,7 @@ pub extern "C" fn garvolish_turn(block: &mut Block, ticket: u8) -> u32
     ensures { λ r. ⌜ TurnsTo (now (block .entry)) ticket r (now (block .exit)) ⌝ }
 {
     let c = change_of(*block, Ticket(ticket));
-    let i = c.place;
+    let i = c.index;
     let slot = c.slot;
     block.states[i] = c.state;
     block.status[i] = c.status;

@@ -10,7 +10,7 @@ use turns::open::open;
 use turns::serial::run_serially;
 use turns::settled::Settling;
 use turns::settled::settled_table;
-use turns::turn::Word;
+use turns::word::Word;
 ghost use mathlib.Core.Path.{_≡_};
 ghost use Prim.Native.Nat.{_≤_};
 ghost use Rattle.machine.specs.View.{number};
@@ -26,31 +26,33 @@ pub(crate) struct Numbered {
     pub number: u32,
 }
 
-// 0 to 5 in the order of the rules, and the refusals by their own numbers.
+// A refusal's number, and any other word's byte.
 pub(crate) fn number_of_word(word: Word) -> u32
     ensures { λ r. ⌜ r ≡ wordNumber (wordOf word) ⌝ }
 {
-    match word {
-        Word::Idle => 0,
-        Word::Back => 1,
-        Word::Step => 2,
-        Word::End => 3,
-        Word::Final => 4,
-        Word::Wait => 5,
-        Word::BadTicket => 14,
-        Word::Stuck => 20,
+    let refused = word.refusal();
+    if refused == 0 {
+        let byte = word.byte();
+        return byte as u32;
     }
+    refused as u32
 }
+
+// What the second and the third byte of an answer count for.
+const SECOND: u32 = 256;
+
+const THIRD: u32 = 65536;
 
 // A refusal's number, field and place in one number, a byte for each.
 fn pack(fault: Fault, field: Field, place: Place) -> u32
     ensures { λ r. ⌜ r ≡ packed (number fault, field .0, place .0) ⌝ }
 {
     let n = fault.number();
-    n as u32 + 256 * (field.0 as u32) + 65536 * (place.0 as u32)
+    n as u32 + SECOND * (field.0 as u32) + THIRD * (place.0 as u32)
 }
 
-fn number_of_opening(answer: Opening) -> u32
+// An opening's refusal; 0 for none.
+pub fn number_of_opening(answer: Opening) -> u32
     ensures { λ r. ⌜ r ≡ packed (openingOf answer) ⌝ }
 {
     match answer {
@@ -109,7 +111,7 @@ pub(crate) fn settled_number(b: Block, table: &mut [u64]) -> u32
 {
     let settled = settled_table(b, table);
     let answer = settled.answer;
-    number_of_settling(answer) + 256 * (settled.f as u32)
+    number_of_settling(answer) + SECOND * (settled.f as u32)
 }
 
 pub(crate) fn serial_number(start: &[u64], output: &mut [u64], paper: &[u8]) -> u32

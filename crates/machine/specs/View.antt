@@ -4,9 +4,10 @@ use mathlib.Core.Path.{_≡_, refl, ap}
 use mathlib.Core.List.{List, [], _∷_, map}
 use Prim.Native.Nat.{ℕ, zero, suc, _+_, _<_}
 use native.Mathlib.Omega.{arith}
-use lib.ListN.{length, getD}
+use lib.ListN.{length, getD, replicate}
 use Rattle.theory.specs.Lists.{firsts}
 use Rattle.theory.specs.Promise.{Act, nothing, read, write, stop, abandon, stuck}
+use Rattle.machine.specs.Limits.{ROOM}
 use Rattle.machine.specs.Machine.{State, stopping, act, stepped}
 use Rattle.machine.specs.declared.instruction.Instruction.{Instruction}
 use Rattle.machine.specs.declared.job.Stack.{Stack}
@@ -38,6 +39,10 @@ stackOf s = tops (s .height) (s .entries)
 
 abbrev pub stateOf : CodeState → State
 stateOf s = record { place = s .place .0; stack = stackOf (s .stack) }
+
+-- the state in which a job starts, to the last byte
+abbrev pub freshState : CodeState
+freshState = record { place = record { 0 = 0 }; stack = record { entries = replicate ROOM 0; height = 0 } }
 
 -- what an instruction asked, where t is the state after it
 abbrev pub actOf : CodeAct → State → Act State

@@ -6,6 +6,12 @@ ghost use lib.Dec.{leb};
 ghost use lib.ListN.{length};
 ghost use Rattle.machine.specs.Paper.{little};
 
+// What a byte counts for in the number of those before it.
+const BASE: u64 = 256;
+
+// Bytes in a number of 64 bits.
+const WIDEST: usize = 8;
+
 fn wide(x: u8) -> u64
     ensures { λ r. ⌜ (r ≡ x) × (r < 256) ⌝ }
 {
@@ -20,7 +26,7 @@ fn gathered(bytes: &[u8]) -> u64
     let mut number: u64 = 0;
     while 0 < n {
         n = n - 1;
-        number = wide(bytes[n]) + 256 * number;
+        number = wide(bytes[n]) + BASE * number;
     }
     number
 }
@@ -29,7 +35,7 @@ fn gathered(bytes: &[u8]) -> u64
 pub fn little_of(bytes: &[u8]) -> u64
     ensures { λ r. ⌜ r ≡ cond (leb (length (now (bytes .entry))) 8) (little (now (bytes .entry))) 0 ⌝ }
 {
-    if 8 < bytes.len() {
+    if WIDEST < bytes.len() {
         return 0;
     }
     gathered(bytes)

@@ -12,13 +12,25 @@ pub struct Instruction {
 }
 
 // By code: the entries needed, where DUP and SWAP need their operand's number more.
-const NEEDS: [u8; 14] = [0, 0, 0, 1, 0, 1, 2, 2, 2, 2, 1, 2, 0, 1];
+const NEEDS: [u8; Instruction::CODES] = [0, 0, 0, 1, 0, 1, 2, 2, 2, 2, 1, 2, 0, 1];
 
 // By code: the change in height, with 2 added so that no number is negative.
-const CHANGES: [u8; 14] = [2, 2, 3, 1, 3, 2, 1, 1, 1, 1, 2, 0, 2, 1];
+const CHANGES: [u8; Instruction::CODES] = [2, 2, 3, 1, 3, 2, 1, 1, 1, 1, 2, 0, 2, 1];
 
-// By code: the operand's column. 0: it is 0; 1: any; 2: 1 to 15; 3: a later place in the job.
-const COLUMNS: [u8; 14] = [0, 0, 1, 0, 2, 2, 0, 0, 0, 0, 0, 0, 3, 3];
+// By code: the operand's column.
+const COLUMNS: [u8; Instruction::CODES] = [0, 0, 1, 0, 2, 2, 0, 0, 0, 0, 0, 0, 3, 3];
+
+// The columns: the operand is 0; any number; 1 to 15; a later place in the job.
+const ZERO: u8 = 0;
+
+const ANY: u8 = 1;
+
+const DEPTH: u8 = 2;
+
+const LATER: u8 = 3;
+
+// The greatest operand of DUP and SWAP.
+const DEEPEST: u64 = 15;
 
 impl Instruction {
     pub const STOP: u8 = 0;
@@ -49,18 +61,25 @@ impl Instruction {
 
     pub const JUMPZERO: u8 = 13;
 
-    // Not above 13.
+    pub const LAST: u8 = Instruction::JUMPZERO;
+
+    pub const CODES: usize = 14;
+
+    // Bytes in a paper: the code, then the operand.
+    pub const BYTES: usize = 9;
+
+    // Not above the last code.
     pub fn known(self) -> bool
         ensures { λ r. ⌜ r ≡ known self ⌝ }
     {
-        self.code <= 13
+        self.code <= Instruction::LAST
     }
 
     fn least(self) -> u8
         ensures { λ r. ⌜ r ≡ getD needs (self .code) 0 ⌝ }
     {
         let code = self.code;
-        if 13 < code {
+        if Instruction::LAST < code {
             return 0;
         }
         NEEDS[code as usize]
@@ -70,7 +89,7 @@ impl Instruction {
         ensures { λ r. ⌜ r ≡ getD changes (self .code) 0 ⌝ }
     {
         let code = self.code;
-        if 13 < code {
+        if Instruction::LAST < code {
             return 0;
         }
         CHANGES[code as usize]
@@ -80,7 +99,7 @@ impl Instruction {
         ensures { λ r. ⌜ r ≡ getD columns (self .code) 0 ⌝ }
     {
         let code = self.code;
-        if 13 < code {
+        if Instruction::LAST < code {
             return 0;
         }
         COLUMNS[code as usize]
@@ -93,15 +112,15 @@ impl Instruction {
         let x = self.operand;
         let column = self.column();
         match column {
-            0 => x == 0,
-            1 => true,
-            2 => {
+            ZERO => x == 0,
+            ANY => true,
+            DEPTH => {
                 if x < 1 {
                     return false;
                 }
-                x <= 15
+                x <= DEEPEST
             }
-            3 => {
+            LATER => {
                 if x <= place.0 as u64 {
                     return false;
                 }
@@ -144,7 +163,7 @@ impl Instruction {
         if height < least {
             return false;
         }
-        if self.column() == 2 {
+        if self.column() == DEPTH {
             return self.operand <= (height - least) as u64;
         }
         true

@@ -17,6 +17,17 @@ ghost use Rattle.machine.specs.View.{codeOf, findingOf, Takes, Answers};
 // Fields count from 1.
 pub struct Field(pub u8);
 
+impl Field {
+    // The tag of a job's field.
+    pub const TAG: u8 = 0x10;
+
+    // Bytes before the contents: the tag and the length.
+    pub const HEAD: usize = 3;
+
+    // Bytes of the longest job.
+    pub const LONGEST: usize = Instruction::BYTES * (Job::LONGEST as usize);
+}
+
 pub enum Verdict {
     Accepted,
     Refused(Fault, Field, Place),
@@ -26,7 +37,7 @@ pub enum Verdict {
 pub struct Checked {
     pub verdict: Verdict,
     pub count: u8,
-    pub jobs: [Job; 16],
+    pub jobs: [Job; Job::MOST as usize],
 }
 
 // The length of the field that starts here.
@@ -35,7 +46,7 @@ fn size_at(paper: &[u8], at: usize) -> usize
     ensures { λ r. ⌜ r ≡ size (drop at (now (paper .entry))) ⌝ }
 {
     let from = at + 1;
-    let to = at + 3;
+    let to = at + Field::HEAD;
     bytes::little_of(&paper[from..to]) as usize
 }
 
@@ -44,7 +55,7 @@ fn instruction_at(paper: &[u8], at: usize) -> Instruction
     ensures { λ r. ⌜ r ≡ instruction (drop at (now (paper .entry))) ⌝ }
 {
     let from = at + 1;
-    let to = at + 9;
+    let to = at + Instruction::BYTES;
     let operand = bytes::little_of(&paper[from..to]);
     Instruction {
         code: paper[at],
@@ -61,14 +72,14 @@ fn job_at(paper: &[u8], at: usize, n: u8) -> Job
         code: Instruction::STOP,
         operand: 0,
     };
-    let mut code = [stop; 64];
+    let mut code = [stop; Job::LONGEST as usize];
     let mut k: u8 = 0;
     let mut from = at;
     while k < n {
         let i = instruction_at(paper, from);
         code[k as usize] = i;
         k = k + 1;
-        from = from + 9;
+        from = from + Instruction::BYTES;
     }
     Job {
         code: code,
@@ -82,26 +93,26 @@ fn check_frame(paper: &[u8], at: usize, count: u8) -> Check
     ensures { λ r. ⌜ findingOf r ≡ frameOf (JOBS - count) (drop at (now (paper .entry))) ⌝ }
 {
     let left = paper.len() - at;
-    if left < 3 {
+    if left < Field::HEAD {
         return Check::Refused(Fault::Head, Place(0));
     }
     let n = size_at(paper, at);
-    if left - 3 < n {
+    if left - Field::HEAD < n {
         return Check::Refused(Fault::Head, Place(0));
     }
-    if paper[at] != 16 {
+    if paper[at] != Field::TAG {
         return Check::Refused(Fault::Tag, Place(0));
     }
-    if count == 16 {
+    if count == Job::MOST {
         return Check::Refused(Fault::Jobs, Place(0));
     }
     if n == 0 {
         return Check::Refused(Fault::Length, Place(0));
     }
-    if 576 < n {
+    if Field::LONGEST < n {
         return Check::Refused(Fault::Length, Place(0));
     }
-    if n % 9 != 0 {
+    if n % Instruction::BYTES != 0 {
         return Check::Refused(Fault::Length, Place(0));
     }
     Check::Passes
@@ -113,7 +124,7 @@ fn empty_job() -> Job {
         operand: 0,
     };
     Job {
-        code: [stop; 64],
+        code: [stop; Job::LONGEST as usize],
         size: 0,
     }
 }
@@ -139,11 +150,11 @@ fn take_field(paper: &[u8], at: usize, count: u8) -> Taken
         };
     };
     let n = size_at(paper, at);
-    let j = job_at(paper, at + 3, (n / 9) as u8);
+    let j = job_at(paper, at + Field::HEAD, (n / Instruction::BYTES) as u8);
     Taken {
         check: check_job(j),
         job: j,
-        next: at + 3 + n,
+        next: at + Field::HEAD + n,
     }
 }
 
@@ -151,7 +162,7 @@ fn take_field(paper: &[u8], at: usize, count: u8) -> Taken
 fn refuse(check: Check, field: u8) -> Checked
     ensures { λ r. ⌜ Answers r (onSound field (findingOf check) (jobs [])) ⌝ }
 {
-    let none = [empty_job(); 16];
+    let none = [empty_job(); Job::MOST as usize];
     match check {
         Check::Passes => Checked {
             verdict: Verdict::Accepted,
@@ -170,7 +181,7 @@ fn refuse(check: Check, field: u8) -> Checked
 pub fn check_paper(paper: &[u8]) -> Checked
     ensures { λ r. ⌜ Answers r (paperAnswer (now (paper .entry))) ⌝ }
 {
-    let mut jobs = [empty_job(); 16];
+    let mut jobs = [empty_job(); Job::MOST as usize];
     let mut count: u8 = 0;
     let mut at: usize = 0;
     while at < paper.len() {

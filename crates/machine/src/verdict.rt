@@ -208,7 +208,7 @@ fn met_with(m: Met, h: u8) -> Met
     }
 }
 
-fn bring_to(known: [Met; 64], t: u64, h: u8) -> [Met; 64]
+fn bring_to(known: [Met; Job::LONGEST as usize], t: u64, h: u8) -> [Met; Job::LONGEST as usize]
     requires { ⌜ t < LONGEST ⌝ }
     ensures { λ r. ⌜ r ≡ bring true t h known ⌝ }
 {
@@ -218,7 +218,7 @@ fn bring_to(known: [Met; 64], t: u64, h: u8) -> [Met; 64]
     k
 }
 
-fn bring_if(known: [Met; 64], leads: bool, t: u64, h: u8) -> [Met; 64]
+fn bring_if(known: [Met; Job::LONGEST as usize], leads: bool, t: u64, h: u8) -> [Met; Job::LONGEST as usize]
     requires { ⌜ (leads ≡ true → t < LONGEST) ⌝ }
     ensures { λ r. ⌜ r ≡ bring leads t h known ⌝ }
 {
@@ -229,7 +229,7 @@ fn bring_if(known: [Met; 64], leads: bool, t: u64, h: u8) -> [Met; 64]
 }
 
 // What an instruction that passed at its place brings to the places that it leads to.
-fn lead_from(i: Instruction, place: Place, m: Met, known: [Met; 64]) -> [Met; 64]
+fn lead_from(i: Instruction, place: Place, m: Met, known: [Met; Job::LONGEST as usize]) -> [Met; Job::LONGEST as usize]
     requires { ⌜ (Fitting (place .0) i) × (entriesOf ROOM i (place .0) m ≡ sound) ⌝ }
     ensures { λ r. ⌜ r ≡ lead i (place .0) m known ⌝ }
 {
@@ -251,7 +251,7 @@ fn check_heights(j: Job) -> Check
 {
     let size = j.size;
     let mut p: u8 = 0;
-    let mut known = [Met::Nobody; 64];
+    let mut known = [Met::Nobody; Job::LONGEST as usize];
     known[0] = Met::Height(0);
     while p < size {
         let i = j.code[p as usize];

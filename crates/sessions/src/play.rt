@@ -4,6 +4,9 @@ use crate::fields::session_parts;
 use crate::text::put_cells;
 use crate::text::put_refusal;
 use crate::text::put_turns;
+use machine::counts::Cell;
+use machine::counts::Place;
+use machine::paper::Field;
 use turns::block::Block;
 use turns::many::take_turns;
 use turns::open::Opening;
@@ -20,11 +23,15 @@ ghost use Rattle.turns.specs.Open.{openingOf};
 ghost use Rattle.sessions.specs.Text.{cellLines, refusedLine, Puts};
 ghost use Rattle.sessions.specs.Session.{played, unlessRefused, Fresh, Plays};
 
-// 13
+// Document 01's numbers of a malformed session and of a table that has not 256 cells.
+const MALFORMED: u8 = 13;
+
+const WRONG_TABLE: u8 = 12;
+
 fn put_malformed(output: &mut [u8]) -> usize
     ensures { λ r. ⌜ Puts (now (output .entry)) 0 (refusedLine (13, 0, 0)) (now (output .exit)) r ⌝ }
 {
-    put_refusal(output, 13, 0, 0)
+    put_refusal(output, MALFORMED, Field(0), Place(0))
 }
 
 // The settled cells of a block.
@@ -32,7 +39,7 @@ fn put_settled(output: &mut [u8], at: usize, b: Block) -> usize
     requires { ⌜ (at ≤ length (now output)) × (blockFits limits box (blockOf b) ≡ true) ⌝ }
     ensures { λ r. ⌜ Puts (now (output .entry)) at (cellLines 0 (settled limits box (blockOf b))) (now (output .exit)) r ⌝ }
 {
-    let mut table = [0u64; 256];
+    let mut table = [0u64; Cell::COUNT as usize];
     settled_table(b, &mut table);
     put_cells(output, at, &table)
 }
@@ -63,9 +70,9 @@ fn put_opened(output: &mut [u8], answer: Opening, b: Block, tickets: &[u8]) -> u
 {
     match answer {
         Opening::Accepted => put_played(output, b, tickets),
-        Opening::WrongTable => put_refusal(output, 12, 0, 0),
+        Opening::WrongTable => put_refusal(output, WRONG_TABLE, Field(0), Place(0)),
         Opening::Refused(fault, field, place) => {
-            put_refusal(output, fault.number(), field.0, place.0)
+            put_refusal(output, fault.number(), field, place)
         }
     }
 }
@@ -83,6 +90,6 @@ pub fn play(input: &[u8], output: &mut [u8]) -> usize
     let to = parts.turns;
     let opened = open(&table, &input[from..to]);
     let answer = opened.answer;
-    let tickets = to + 3;
+    let tickets = to + Field::HEAD;
     put_opened(output, answer, opened.block, &input[tickets..])
 }

@@ -1,9 +1,13 @@
 // Text in a lent buffer: each piece stands where the last one ended, and is cut where the buffer ends.
-
+use machine::counts::Cell;
+use machine::counts::Place;
+use machine::counts::Ticket;
+use machine::paper::Field;
 ghost use mathlib.Core.Path.{_≡_};
 ghost use mathlib.Core.List.{[], _∷_};
 ghost use Prim.Native.Nat.{_≤_};
 ghost use lib.ListN.{length};
+ghost use Rattle.machine.specs.Limits.{CELLS};
 ghost use Rattle.sessions.specs.Text.{decimal, byteText, finalByte, spaced, lastOf, named, turnLine, byteLines, cellLine, cellLines, whereOf, refusedLine, Puts};
 
 // One byte at a place.
@@ -89,19 +93,22 @@ fn put_named(out: &mut [u8], at: usize, n: u64, word: u8) -> usize
 }
 
 // The ticket, the turn's word, and f after it.
-fn put_turn(out: &mut [u8], at: usize, ticket: u8, word: u8, f: u64) -> usize
+fn put_turn(out: &mut [u8], at: usize, ticket: Ticket, word: u8, f: u64) -> usize
     requires { ⌜ at ≤ length (now out) ⌝ }
-    ensures { λ r. ⌜ Puts (now (out .entry)) at (turnLine ticket (byteText word) f) (now (out .exit)) r ⌝ }
+    ensures { λ r. ⌜ Puts (now (out .entry)) at (turnLine (ticket .0) (byteText word) f) (now (out .exit)) r ⌝ }
 {
-    let a = put_named(out, at, ticket as u64, word);
+    let a = put_named(out, at, ticket.0 as u64, word);
     put_last(out, a, f)
 }
+
+// The byte of a final turn.
+const FINAL: u8 = 4;
 
 // What a turn of this word adds to the number of final jobs.
 fn final_one(word: u8) -> u64
     ensures { λ r. ⌜ r ≡ finalByte word ⌝ }
 {
-    if word == 4 {
+    if word == FINAL {
         return 1;
     }
     0
@@ -118,49 +125,51 @@ pub(crate) fn put_turns(out: &mut [u8], at: usize, tickets: &[u8], words: &[u8])
     while k < tickets.len() {
         let w = words[k];
         f = f + final_one(w);
-        to = put_turn(out, to, tickets[k], w, f);
+        let t = tickets[k];
+        to = put_turn(out, to, Ticket(t), w, f);
         k = k + 1;
     }
     to
 }
 
 // A settled cell that is not 0.
-fn put_cell(out: &mut [u8], at: usize, cell: u64, value: u64) -> usize
+fn put_cell(out: &mut [u8], at: usize, cell: Cell, value: u64) -> usize
     requires { ⌜ at ≤ length (now out) ⌝ }
-    ensures { λ r. ⌜ Puts (now (out .entry)) at (cellLine cell value) (now (out .exit)) r ⌝ }
+    ensures { λ r. ⌜ Puts (now (out .entry)) at (cellLine (cell .0) value) (now (out .exit)) r ⌝ }
 {
     if value == 0 {
         return at;
     }
     let a = put_all(out, at, b"cell ");
-    let b = put_decimal(out, a, cell);
+    let b = put_decimal(out, a, cell.0 as u64);
     put_last(out, b, value)
 }
 
 pub(crate) fn put_cells(out: &mut [u8], at: usize, table: &[u64]) -> usize
-    requires { ⌜ at ≤ length (now out) ⌝ }
+    requires { ⌜ (at ≤ length (now out)) × (length (now table) ≡ CELLS) ⌝ }
     ensures { λ r. ⌜ Puts (now (out .entry)) at (cellLines 0 (now (table .entry))) (now (out .exit)) r ⌝ }
 {
     let mut to = at;
     let mut k: usize = 0;
     while k < table.len() {
-        to = put_cell(out, to, k as u64, table[k]);
+        let number = k as u16;
+        to = put_cell(out, to, Cell(number), table[k]);
         k = k + 1;
     }
     to
 }
 
 // A field and a place, at a line's end.
-fn put_where(out: &mut [u8], at: usize, field: u8, place: u8) -> usize
+fn put_where(out: &mut [u8], at: usize, field: Field, place: Place) -> usize
     requires { ⌜ at ≤ length (now out) ⌝ }
-    ensures { λ r. ⌜ Puts (now (out .entry)) at (whereOf field place) (now (out .exit)) r ⌝ }
+    ensures { λ r. ⌜ Puts (now (out .entry)) at (whereOf (field .0) (place .0)) (now (out .exit)) r ⌝ }
 {
-    let a = put_spaced(out, at, field as u64);
-    put_last(out, a, place as u64)
+    let a = put_spaced(out, at, field.0 as u64);
+    put_last(out, a, place.0 as u64)
 }
 
-pub(crate) fn put_refusal(out: &mut [u8], number: u8, field: u8, place: u8) -> usize
-    ensures { λ r. ⌜ Puts (now (out .entry)) 0 (refusedLine (number, field, place)) (now (out .exit)) r ⌝ }
+pub(crate) fn put_refusal(out: &mut [u8], number: u8, field: Field, place: Place) -> usize
+    ensures { λ r. ⌜ Puts (now (out .entry)) 0 (refusedLine (number, field .0, place .0)) (now (out .exit)) r ⌝ }
 {
     let a = put_all(out, 0, b"refused ");
     let b = put_decimal(out, a, number as u64);

@@ -1,5 +1,6 @@
 -- One law for each return of the code, over plain variables; a function's laws stand in one ruleset.
 pub mod Arrays
+pub mod Filled
 pub mod Journal
 pub mod Versions
 pub mod Marks

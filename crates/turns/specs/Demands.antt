@@ -3,6 +3,7 @@
 use mathlib.Core.Path.{_≡_, refl, fun-ext}
 use mathlib.Core.Logic.{_≢_}
 use mathlib.Core.Bool.{Bool, true, false, not, cond}
+use mathlib.Core.Option.{some}
 use mathlib.Core.List.{List, [], _∷_, map}
 use Prim.Native.Nat.{ℕ, suc, _+_, _≤_, _<_}
 use native.Mathlib.Omega.{arith}
@@ -20,6 +21,8 @@ use Rattle.theory.specs.TurnsNeeded.{occurs}
 use Rattle.theory.specs.SettledIsSerial as S
 use Rattle.theory.specs.NeverStuck as N
 use Rattle.theory.specs.FinalWithin as F
+use Rattle.theory.specs.Follows as O
+use Rattle.theory.specs.Follows.{runOn}
 use Rattle.machine.specs.Limits.{FEW, JOBS, CELLS}
 use Rattle.machine.specs.Machine.{Running, starting}
 use Rattle.machine.specs.Paper.{Answer, jobs, refused, paperAnswer}
@@ -79,6 +82,13 @@ module _ (start paper : List ℕ) (js : List (List Instruction)) (whole : length
   final-within ts more i l lower turns =
       rw opens (F.final-within limits box box-promise boxChecked start (map starting js) few passed ts more i (omega (arith, length-map js starting)) (rw opens at lower)
       (rw (starts i) (omega arith)))
+
+  -- document 01's "Follows": the place, stack and journal of the job at index i are those of a run of some n instructions from its start on the values
+  -- in its list of reads, however often it went back; marked or not
+  pub follows : (ts : List ℕ) (i : ℕ) →
+      let j = E.jobAt limits box (after ts) i in
+      (n : ℕ) × (runOn box (j .reads) (starting (getD js i [])) n ≡ some (record { state = j .state; journal = j .journal }))
+  follows ts i = rw (opens, ← starts i) (O.follows limits box start (map starting js) ts i)
 
   -- the block fits after any turns
   pub always-fits : (ts : List ℕ) → E.blockFits limits box (after ts) ≡ true

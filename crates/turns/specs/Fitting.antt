@@ -16,7 +16,7 @@ use Rattle.machine.specs.Limits.{LONGEST, ROOM, FEW, JOBS, CELLS}
 use Rattle.turns.specs.Box.{limits, box}
 use Rattle.turns.specs.Program.{noProgram}
 use Rattle.turns.specs.Block.{noState, noCheckpoint, blockOf}
-use Rattle.turns.specs.View.{noEntry, Showing, placeAt, place-low, place-past, markOf, noJournal, noVersions, noRead, noReads}
+use Rattle.turns.specs.View.{noEntry, Showing, numberAt, number-low, number-past, markOf, noJournal, noVersions, noRead, noReads}
 use Rattle.turns.specs.Sizes.{passes, codeWithin, keptOf, standsIn, journalWithin, versionWithinAt, versionsWithin, readWithin, risesFrom, readsWithin, markWithin, jobWithin, jobWithinAt, block-is, entryWithin, entryWithinAt}
 use Rattle.turns.specs.declared.block.Journal.{Journal}
 use Rattle.turns.specs.declared.block.Versions.{Versions}
@@ -111,7 +111,7 @@ journal-cells : (jo : Journal) → journalWithin jo ≡ true → (i : ℕ) → i
 unfolding journalWithin entryWithin
 journal-cells jo e i l = ltb-true _ _ (passes-at (entryWithinAt jo) 0 (jo .size) (both (leb (jo .size) FEW) _ e .1) i (omega arith) (omega arith))
 
-versions-within : (n : ℕ) (v : Versions) → versionsWithin n v ≡ true → (i : ℕ) → i < v .size → placeAt v i < n
+versions-within : (n : ℕ) (v : Versions) → versionsWithin n v ≡ true → (i : ℕ) → i < v .size → numberAt v i < n
 unfolding versionsWithin
 versions-within n v e i l = ltb-true _ _ (passes-at (versionWithinAt n v) 0 (v .size) e i (omega arith) (omega arith))
 
@@ -120,13 +120,13 @@ versions-few : (n : ℕ) (v : Versions) → n ≤ 8 → versionsWithin n v ≡ t
 versions-few n v m e = go (decLt 8 (v .size))
   where
     go : Dec (8 < v .size) → v .size ≤ 8
-    go (yes l) = absurd (omega (arith, versions-within n v e 8 l, place-past v 8 (omega arith)))
+    go (yes l) = absurd (omega (arith, versions-within n v e 8 l, number-past v 8 (omega arith)))
     go (no l) = omega arith
 
 showing : (j : Journal) (v : Versions) → journalWithin j ≡ true → versionsWithin (j .size) v ≡ true → Showing j v
 showing j v a e =
     let few = versions-few (j .size) v (journal-few j a) e in
-    record { entries = journal-few j a; places = few; named = λ i l. rw (place-low v i (omega arith)) (versions-within (j .size) v e i l) }
+    record { entries = journal-few j a; numbers = few; named = λ i l. rw (number-low v i (omega arith)) (versions-within (j .size) v e i l) }
 
 reads-few : (n entries : ℕ) (rs : Reads) (cs : ℕ → Kept) → readsWithin n entries rs cs ≡ true → rs .size ≤ 8
 unfolding readsWithin

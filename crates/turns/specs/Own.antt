@@ -1,6 +1,7 @@
 -- The own parts of one job, what a turn makes of them, and the block in which they are placed.
 use mathlib.Core.Path.{_≡_}
 use mathlib.Core.Bool.{Bool, true, false, cond}
+use mathlib.Core.Logic.{_⊎_}
 use mathlib.Core.List.{List, [], _∷_, _++_}
 use Prim.Native.Nat.{ℕ, _+_, _-_, _*_, _≤_, _<_}
 use lib.Dec.{leb}
@@ -29,8 +30,8 @@ use Rattle.turns.specs.declared.block.Read.{Read}
 use Rattle.turns.specs.declared.block.Reads.{Reads}
 use Rattle.turns.specs.declared.block.Block.{Block}
 use Rattle.turns.specs.declared.marks.Shows.{Shows}
-use Rattle.turns.specs.declared.turn.Word.{Word}
-use Rattle.turns.specs.declared.turn.Word.the-variants.{Back, Step, End, Final}
+use Rattle.turns.specs.declared.word.Word.{Word}
+use Rattle.turns.specs.declared.word.Word.the-variants.{Back, Step, End, Final}
 use Rattle.turns.specs.declared.turn.Turned.{Turned}
 use Rattle.turns.specs.declared.own.Own.{Own}
 use Rattle.turns.specs.declared.own.Around.{Around}
@@ -149,7 +150,9 @@ pub record Done (b : Block) (t : ℕ) (p : E.Moved Running) (m : Move) : Type 0 
   pub shown : m .marks ≡ true → Showing (m .own .journal) (m .own .versions)
   pub few : m .marks ≡ true → m .own .list .size ≤ 8
 
+-- a rule stores the status 0, 1 or 2, or leaves it
 pub record Moves (o : Own) (Q : Block → ℕ → Type 0) (plain : Block → ℕ → E.Moved Running) (m : Move) : Type 0 where
+  pub status : (m .own .status ≤ 2) ⊎ (m .own .status ≡ o .status)
   pub on : (b : Block) (t : ℕ) → At b t o → Q b t → Done b t (plain b (t - 1)) m
 
 -- a WRITE needs nothing of the block

@@ -16,7 +16,7 @@ use Rattle.machine.specs.View.{length-tops}
 use Rattle.machine.specs.declared.instruction.Instruction.{Instruction}
 use Rattle.machine.specs.declared.job.State.{State}
 use Rattle.turns.specs.Program.{noProgram, instructionIn, programOf, length-program, program-at}
-use Rattle.turns.specs.View.{entryOf, entriesOf, journalOf, length-journal, placeAt, versionsOf, markOf, noEntry, noJournal, noVersions, noRead, noReads}
+use Rattle.turns.specs.View.{entryOf, entriesOf, journalOf, length-journal, numberAt, versionsOf, markOf, noEntry, noJournal, noVersions, noRead, noReads}
 use Rattle.turns.specs.Block.{noState, noCheckpoint, runningOf, readOf, readsOf, jobOf, blockOf}
 use Rattle.turns.specs.Box.{limits, box}
 use Rattle.turns.specs.declared.block.Entry.{Entry}
@@ -68,7 +68,7 @@ journalWithin j = leb (j .size) FEW && passes (entryWithinAt j) 0 (j .size)
 
 -- the k-th version names one of n entries
 abbrev pub versionWithinAt : ℕ → Versions → ℕ → Bool
-versionWithinAt n v k = ltb (placeAt v k) n
+versionWithinAt n v k = ltb (numberAt v k) n
 
 unfoldable pub versionsWithin : ℕ → Versions → Bool
 versionsWithin n v = passes (versionWithinAt n v) 0 (v .size)
@@ -179,7 +179,7 @@ journal-is jo =
 
 versions-are : (n : ℕ) (v : Versions) → E.all (λ i. ltb i n) (versionsOf v) ≡ versionsWithin n v
 unfolding versionsWithin versionsOf
-versions-are n v = all-tab (λ i. ltb i n) (v .size) (placeAt v)
+versions-are n v = all-tab (λ i. ltb i n) (v .size) (numberAt v)
 
 -- the tests of the journal stand together, and those of the reads
 grouped : (s l a v m n r : Bool) → s && l && a && v && m && n && r ≡ s && (l && a) && v && (m && n) && r

@@ -7,6 +7,7 @@ use Prim.Native.Nat.{ℕ, zero, suc, _+_, _*_, _≤_, _<_}
 use lib.Dec.{eqb, leb, ltb}
 use lib.ListN.{length, getD}
 use Rattle.theory.specs.Word as W
+unfoldable pub use Rattle.theory.specs.Word.{leaves}
 use Rattle.theory.specs.Promise.{read}
 use Rattle.theory.specs.Engine as E
 use Rattle.machine.specs.Limits.{ROOM, FEW}
@@ -21,8 +22,8 @@ use Rattle.turns.specs.Moves.{Sized, Held}
 use Rattle.turns.specs.declared.block.Entry.{Entry}
 use Rattle.turns.specs.declared.block.Reads.{Reads}
 use Rattle.turns.specs.declared.block.Block.{Block}
-use Rattle.turns.specs.declared.turn.Word.{Word}
-use Rattle.turns.specs.declared.turn.Word.the-variants.{Idle, Back, Step, End, Final, Wait, BadTicket, Stuck}
+use Rattle.turns.specs.declared.word.Word.{Word}
+use Rattle.turns.specs.declared.word.Word.the-variants.{Idle, Back, Step, End, Final, Wait, BadTicket, Stuck}
 use Rattle.turns.specs.declared.turn.Turned.{Turned}
 
 unfoldable pub wordOf : Word → W.Word
@@ -81,27 +82,29 @@ foreign n t = eqb t 0 || ltb n t
 abbrev pub refusing : Bool → Word
 refusing x = cond x BadTicket Stuck
 
--- the words that leave a block as it was
-unfoldable pub leaves : W.Word → Bool
-leaves W.idle = true
-leaves W.back = false
-leaves W.step = false
-leaves W.end = false
-leaves W.final = false
-leaves W.wait = true
-leaves W.badTicket = true
-leaves W.stuck = true
-
 -- the code's answer is this move of the job at place i; what the words leave, they leave to the last byte
 pub record Did (b : Block) (i : ℕ) (m : E.Moved Running) (r : Turned) : Type 0 where
   pub word : wordOf (r .word) ≡ m .word
   pub block : blockOf (r .block) ≡ E.moveTo limits box (blockOf b) i (m .word) (m .job) .block
   pub left : leaves (m .word) ≡ true → r .block ≡ b
 
+-- what the plain block does not show, and turns leave or fix all the same: the programs stay to the last byte, and so does the status of
+-- a final job; any other is 0, 1 or 2
+pub record Keeps (b r : Block) : Type 0 where
+  pub programs : r .jobs ≡ b .jobs
+  pub final : (k : ℕ) → 2 ≤ getD (b .status) k 0 → getD (r .status) k 0 ≡ getD (b .status) k 0
+  pub other : (k : ℕ) → getD (b .status) k 0 < 2 → getD (r .status) k 0 ≤ 2
+
+-- document 01's number of a refused turn, and 0 of one that was taken
+abbrev pub refusalOf : Word → ℕ
+refusalOf w = W.refusal (wordOf w)
+
 -- the code's answer is the plain turn of ticket t
 pub record Turns (b : Block) (t : ℕ) (r : Turned) : Type 0 where
   pub word : wordOf (r .word) ≡ E.turn limits box (blockOf b) t .word
+  pub refusal : refusalOf (r .word) ≡ W.refusal (E.turn limits box (blockOf b) t .word)
   pub block : blockOf (r .block) ≡ E.turn limits box (blockOf b) t .block
+  pub keeps : Keeps b (r .block)
   pub left : leaves (E.turn limits box (blockOf b) t .word) ≡ true → r .block ≡ b
 
 -- the state after a READ, before and after its value is given

@@ -6,10 +6,11 @@ use mathlib.Core.Option.{Option, none, some}
 use mathlib.Core.List.{List, [], _∷_}
 use Prim.Native.Nat.{ℕ, suc, _≤_, _<_}
 use lib.Dec.{eqb, ltb}
-use lib.ListN.{length, getD, drop}
+use lib.ListN.{length, getD, drop, replicate}
 use borrow.Author.Tests.{lt-ltb, le-ltb}
 use Rattle.theory.specs.Lists.{tab, length-tab}
 use Rattle.theory.specs.Engine as E
+use Rattle.machine.specs.Limits.{FEW}
 use Rattle.turns.specs.declared.block.Entry.{Entry}
 use Rattle.turns.specs.declared.block.Journal.{Journal}
 use Rattle.turns.specs.declared.block.Versions.{Versions}
@@ -40,35 +41,35 @@ unfolding entriesOf
 length-journal j = length-tab (j .size) (λ k. entryOf (getD (j .entries) k noEntry))
 
 -- the entry that the k-th version names; one past the array's end names nothing
-unfoldable pub placeAt : Versions → ℕ → ℕ
-placeAt v k = cond (ltb k 8) (getD (v .places) k 0) 255
+unfoldable pub numberAt : Versions → ℕ → ℕ
+numberAt v k = cond (ltb k 8) (getD (v .numbers) k 0) 255
 
-pub place-low : (v : Versions) (k : ℕ) → k < 8 → getD (v .places) k 0 ≡ placeAt v k
-unfolding placeAt
-place-low v k l = rw (lt-ltb k 8 l) refl
+pub number-low : (v : Versions) (k : ℕ) → k < 8 → getD (v .numbers) k 0 ≡ numberAt v k
+unfolding numberAt
+number-low v k l = rw (lt-ltb k 8 l) refl
 
-pub place-past : (v : Versions) (k : ℕ) → 8 ≤ k → 255 ≡ placeAt v k
-unfolding placeAt
-place-past v k l = rw (le-ltb k 8 l) refl
+pub number-past : (v : Versions) (k : ℕ) → 8 ≤ k → 255 ≡ numberAt v k
+unfolding numberAt
+number-past v k l = rw (le-ltb k 8 l) refl
 
 unfoldable pub versionsOf : Versions → List ℕ
-versionsOf v = tab (v .size) (placeAt v)
+versionsOf v = tab (v .size) (numberAt v)
 
-unfoldable pub placeOf : Found → Option ℕ
-placeOf (At k) = some k
-placeOf Nowhere = none
+unfoldable pub foundOf : Found → Option ℕ
+foundOf (At k) = some k
+foundOf Nowhere = none
 
 abbrev pub noJournal : Journal
 noJournal = record { entries = []; size = 0 }
 
 abbrev pub noVersions : Versions
-noVersions = record { places = []; size = 0 }
+noVersions = record { numbers = []; size = 0 }
 
 -- versions that are few, and name entries of the journal
 pub record Showing (j : Journal) (v : Versions) : Type 0 where
   pub entries : j .size ≤ 8
-  pub places : v .size ≤ 8
-  pub named : (k : ℕ) → k < v .size → getD (v .places) k 0 < j .size
+  pub numbers : v .size ≤ 8
+  pub named : (k : ℕ) → k < v .size → getD (v .numbers) k 0 < j .size
 
 -- .. of the jobs at the places below n
 pub record ShowingBelow (js : List Journal) (vs : List Versions) (n : ℕ) : Type 0 where
@@ -107,6 +108,16 @@ markByte (some m) = m
 
 abbrev pub noRead : Read
 noRead = record { cell = record { 0 = 0 }; source = record { 0 = 0 }; value = 0 }
+
+-- a journal, versions and a list of reads of nothing, to the last byte
+abbrev pub emptyJournal : Journal
+emptyJournal = record { entries = replicate FEW noEntry; size = 0 }
+
+abbrev pub emptyVersions : Versions
+emptyVersions = record { numbers = replicate FEW 0; size = 0 }
+
+abbrev pub emptyReads : Reads
+emptyReads = record { reads = replicate FEW noRead; size = 0; mark = 255 }
 
 abbrev pub noReads : Reads
 noReads = record { reads = []; size = 0; mark = 0 }

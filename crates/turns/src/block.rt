@@ -1,15 +1,16 @@
 // A block in work, by value and in small parts, so that a turn moves only the parts that it touches.
 use machine::counts::Cell;
 use machine::counts::Ticket;
+use machine::job::Job;
 use machine::job::State;
 
 // The instructions of a job, in bytes, so that the test of sizes takes many at a time. The operand of a PUSH, which may be any
 // number, stands in `pushed`, every other in `arguments`.
 #[repr(C)]
 pub struct Program {
-    pub codes: [u8; 64],
-    pub arguments: [u8; 64],
-    pub pushed: [u64; 64],
+    pub codes: [u8; Job::LONGEST as usize],
+    pub arguments: [u8; Job::LONGEST as usize],
+    pub pushed: [u64; Job::LONGEST as usize],
     pub size: u8,
 }
 
@@ -23,15 +24,20 @@ pub struct Entry {
 // The writes of a job, in order.
 #[repr(C)]
 pub struct Journal {
-    pub entries: [Entry; 8],
+    pub entries: [Entry; Job::FEW as usize],
     pub size: u8,
 }
 
-// The public versions of a job: each is the place of its journal entry.
+// The public versions of a job: each is the number of its journal entry.
 #[repr(C)]
 pub struct Versions {
-    pub places: [u8; 8],
+    pub numbers: [u8; Job::FEW as usize],
     pub size: u8,
+}
+
+impl Versions {
+    // The number of no entry.
+    pub const NOTHING: u8 = 255;
 }
 
 #[repr(C)]
@@ -44,7 +50,7 @@ pub struct Read {
 // The listed reads of a job, and the earliest marked one.
 #[repr(C)]
 pub struct Reads {
-    pub reads: [Read; 8],
+    pub reads: [Read; Job::FEW as usize],
     pub size: u8,
     pub mark: u8,
 }
@@ -62,17 +68,29 @@ pub struct Checkpoint {
     pub listed: u8,
 }
 
-// Job k has ticket k + 1. Its checkpoints stand from 8 * k on, one for each listed read.
-// A job's status is 0 while it runs, 1 once it has ended, and 2 once it is final.
+// The job at index k has ticket k + 1. Its checkpoints stand from SLOTS * k on, one for each listed read. From FINAL on a status is
+// final: a turn stores no other, and an altered one is read and not refused.
 #[repr(C)]
 pub struct Block {
-    pub start: [u64; 256],
+    pub start: [u64; Cell::COUNT as usize],
     pub count: u8,
-    pub jobs: [Program; 16],
-    pub states: [State; 16],
-    pub status: [u8; 16],
-    pub journals: [Journal; 16],
-    pub versions: [Versions; 16],
-    pub reads: [Reads; 16],
-    pub checkpoints: [Checkpoint; 128],
+    pub jobs: [Program; Job::MOST as usize],
+    pub states: [State; Job::MOST as usize],
+    pub status: [u8; Job::MOST as usize],
+    pub journals: [Journal; Job::MOST as usize],
+    pub versions: [Versions; Job::MOST as usize],
+    pub reads: [Reads; Job::MOST as usize],
+    pub checkpoints: [Checkpoint; Block::SLOTS * (Job::MOST as usize)],
+}
+
+impl Block {
+    // A status: it runs, it has ended, it is final.
+    pub const RUNNING: u8 = 0;
+
+    pub const ENDED: u8 = 1;
+
+    pub const FINAL: u8 = 2;
+
+    // Checkpoints of one job.
+    pub const SLOTS: usize = Job::FEW as usize;
 }

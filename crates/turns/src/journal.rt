@@ -7,25 +7,25 @@ ghost use mathlib.Core.List.{_++_, _∷_, []};
 ghost use Prim.Native.Nat.{_≤_, _<_};
 ghost use lib.ListN.{getD};
 ghost use Rattle.theory.specs.Engine.{noEntry, lastAt};
-ghost use Rattle.turns.specs.View.{entryOf, journalOf, placeOf};
+ghost use Rattle.turns.specs.View.{entryOf, journalOf, foundOf};
 
-// A place in a journal or in a list of reads, where there is one.
+// The number of a journal entry, where there is one.
 pub enum Found {
     At(u8),
     Nowhere,
 }
 
-pub(crate) fn entry_at(j: Journal, place: u8) -> Entry
-    requires { ⌜ (j .size ≤ 8) × (place < j .size) ⌝ }
-    ensures { λ r. ⌜ entryOf r ≡ getD (journalOf j) place noEntry ⌝ }
+pub(crate) fn entry_at(j: Journal, number: u8) -> Entry
+    requires { ⌜ (j .size ≤ 8) × (number < j .size) ⌝ }
+    ensures { λ r. ⌜ entryOf r ≡ getD (journalOf j) number noEntry ⌝ }
 {
-    j.entries[place as usize]
+    j.entries[number as usize]
 }
 
-// The place of the last entry for a cell.
+// The number of the last entry for a cell.
 pub(crate) fn last_entry(j: Journal, c: Cell) -> Found
     requires { ⌜ j .size ≤ 8 ⌝ }
-    ensures { λ r. ⌜ placeOf r ≡ lastAt (journalOf j) (c .0) ⌝ }
+    ensures { λ r. ⌜ foundOf r ≡ lastAt (journalOf j) (c .0) ⌝ }
 {
     let mut k = j.size;
     while 0 < k {

@@ -10,9 +10,9 @@ use crate::own::slot_of;
 use crate::own::take_own;
 use crate::program::program_step;
 use crate::sizes::block_fits;
-use crate::turn::Word;
 use crate::turn::is_refused;
-use crate::turn::place_of;
+use crate::turn::index_of;
+use crate::word::Word;
 use machine::counts::Ticket;
 ghost use mathlib.Core.Path.{_≡_};
 ghost use lib.ListN.{length};
@@ -34,28 +34,12 @@ pub struct Taken {
     pub answer: Taking,
 }
 
-// 0 to 5 in the order of the rules, 6 for a turn that was refused.
-pub fn byte_of(word: Word) -> u8
-    ensures { λ r. ⌜ r ≡ byteOf (wordOf word) ⌝ }
-{
-    match word {
-        Word::Idle => 0,
-        Word::Back => 1,
-        Word::Step => 2,
-        Word::End => 3,
-        Word::Final => 4,
-        Word::Wait => 5,
-        Word::BadTicket => 6,
-        Word::Stuck => 6,
-    }
-}
-
 // The byte of what became of a turn.
 fn byte_after(done: Move) -> u8
     ensures { λ r. ⌜ r ≡ byteOf (wordOf (done .word)) ⌝ }
 {
     let word = done.word;
-    byte_of(word)
+    word.byte()
 }
 
 // The tickets take their turns in order, in this function's own block.
@@ -69,10 +53,10 @@ fn take_all(mut b: Block, fits: bool, tickets: &[u8], words: &mut [u8]) -> Block
         k = k + 1;
         let t = Ticket(tickets[at]);
         if is_refused(t, b.count, fits) {
-            words[at] = 6;
+            words[at] = Word::NONE;
             continue;
         }
-        let i = place_of(t);
+        let i = index_of(t);
         let list = b.reads[i];
         let slot = slot_of(i, list.size);
         let mark = slot_of(i, list.mark);

@@ -6,11 +6,12 @@ use crate::block::Versions;
 use crate::journal::Found;
 use crate::versions::shown_at;
 use machine::counts::Ticket;
+use machine::job::Job;
 ghost use mathlib.Core.Path.{_≡_};
 ghost use mathlib.Core.Option.{some};
 ghost use Prim.Native.Nat.{_-_, _≤_, _<_};
 ghost use Rattle.theory.specs.Engine.{struck, earlier};
-ghost use Rattle.turns.specs.View.{placeOf, markOf, markByte};
+ghost use Rattle.turns.specs.View.{foundOf, markOf, markByte};
 ghost use Rattle.turns.specs.Marks.{Shown, struckBy, markBy, markReads, sweep, ListsFit};
 
 // A job's journal and public versions: from where it shows each cell.
@@ -21,7 +22,7 @@ pub(crate) struct Shows {
 
 // Whether a read with this source is to be marked, where ticket t showed its cell from one place and shows it from another.
 fn is_struck(before: Found, after: Found, t: Ticket, source: Ticket) -> bool
-    ensures { λ r. ⌜ r ≡ struck (placeOf before) (placeOf after) (t .0) (source .0) ⌝ }
+    ensures { λ r. ⌜ r ≡ struck (foundOf before) (foundOf after) (t .0) (source .0) ⌝ }
 {
     match before {
         Found::Nowhere => match after {
@@ -92,12 +93,12 @@ fn marked(reads: Reads, old: Shows, new: Shows, t: Ticket) -> Reads
 
 // Marks each job above ticket t.
 pub(crate) fn mark_above(
-    lists: [Reads; 16],
+    lists: [Reads; Job::MOST as usize],
     count: u8,
     old: Shows,
     new: Shows,
     t: Ticket,
-) -> [Reads; 16]
+) -> [Reads; Job::MOST as usize]
     requires { ⌜ (count ≤ 16) × ListsFit lists count × Shown old × Shown new ⌝ }
     ensures { λ r. ⌜ r ≡ sweep (markReads old new (t .0)) (t .0) (count - t .0) lists ⌝ }
 {

@@ -18,13 +18,12 @@ use machine::paper::check_paper;
 use machine::verdict::Fault;
 ghost use mathlib.Core.Path.{_≡_};
 ghost use mathlib.Core.List.{[]};
-ghost use Prim.Native.Nat.{_≤_};
-ghost use lib.ListN.{length};
-ghost use Rattle.machine.specs.Limits.{JOBS, CELLS};
+ghost use lib.ListN.{length, replicate};
+ghost use Rattle.machine.specs.Limits.{CELLS};
 ghost use Rattle.machine.specs.Paper.{refusal};
 ghost use Rattle.machine.specs.View.{answerOf};
-ghost use Rattle.turns.specs.Block.{blockOf};
-ghost use Rattle.turns.specs.Open.{freshBlock, nothingOpen, NoReads, openingOf, Opens};
+ghost use Rattle.turns.specs.View.{emptyReads};
+ghost use Rattle.turns.specs.Open.{filledBlock, wholeBlock, openingOf, Opens};
 
 pub enum Opening {
     Accepted,
@@ -37,11 +36,11 @@ pub struct Opened {
     pub answer: Opening,
 }
 
-fn table_of(start: &[u64]) -> [u64; 256]
+fn table_of(start: &[u64]) -> [u64; Cell::COUNT as usize]
     requires { ⌜ length (now start) ≡ CELLS ⌝ }
     ensures { λ r. ⌜ r ≡ now (start .entry) ⌝ }
 {
-    let mut table = [0; 256];
+    let mut table = [0; Cell::COUNT as usize];
     let mut k: usize = 0;
     while k < start.len() {
         table[k] = start[k];
@@ -52,7 +51,7 @@ fn table_of(start: &[u64]) -> [u64; 256]
 
 // A job that has read nothing is marked nowhere.
 fn no_reads() -> Reads
-    ensures { λ r. ⌜ NoReads r ⌝ }
+    ensures { λ r. ⌜ r ≡ emptyReads ⌝ }
 {
     let none = Read {
         cell: Cell(0),
@@ -60,16 +59,15 @@ fn no_reads() -> Reads
         value: 0,
     };
     Reads {
-        reads: [none; 8],
+        reads: [none; Job::FEW as usize],
         size: 0,
         mark: Reads::UNMARKED,
     }
 }
 
 // The first count jobs, each at its start.
-fn fresh_block(table: [u64; 256], count: u8, jobs: [Program; 16]) -> Block
-    requires { ⌜ count ≤ JOBS ⌝ }
-    ensures { λ r. ⌜ blockOf r ≡ freshBlock table count jobs ⌝ }
+fn fresh_block(table: [u64; Cell::COUNT as usize], count: u8, jobs: [Program; Job::MOST as usize]) -> Block
+    ensures { λ r. ⌜ r ≡ filledBlock table count jobs ⌝ }
 {
     let state = Job::fresh();
     let journal = no_entries();
@@ -84,21 +82,21 @@ fn fresh_block(table: [u64; 256], count: u8, jobs: [Program; 16]) -> Block
         start: table,
         count: count,
         jobs: jobs,
-        states: [state; 16],
-        status: [0; 16],
-        journals: [journal; 16],
-        versions: [versions; 16],
-        reads: [reads; 16],
-        checkpoints: [checkpoint; 128],
+        states: [state; Job::MOST as usize],
+        status: [Block::RUNNING; Job::MOST as usize],
+        journals: [journal; Job::MOST as usize],
+        versions: [versions; Job::MOST as usize],
+        reads: [reads; Job::MOST as usize],
+        checkpoints: [checkpoint; Block::SLOTS * (Job::MOST as usize)],
     }
 }
 
 // What a refused opening yields.
 fn nothing_open() -> Block
-    ensures { λ r. ⌜ blockOf r ≡ nothingOpen ⌝ }
+    ensures { λ r. ⌜ r ≡ wholeBlock (replicate CELLS 0) [] ⌝ }
 {
     let empty = stops(0);
-    fresh_block([0; 256], 0, [empty; 16])
+    fresh_block([0; Cell::COUNT as usize], 0, [empty; Job::MOST as usize])
 }
 
 // The checker's refusal.

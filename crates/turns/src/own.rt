@@ -1,4 +1,5 @@
 // One turn on the parts of its own job, so that the block stays where it is.
+use crate::block::Block;
 use crate::block::Checkpoint;
 use crate::block::Entry;
 use crate::block::Journal;
@@ -10,14 +11,15 @@ use crate::journal::entry_at;
 use crate::journal::last_entry;
 use crate::journal::with_entry;
 use crate::marks::Shows;
-use crate::turn::Word;
 use crate::versions::Shown;
 use crate::versions::find_version;
 use crate::versions::no_versions;
 use crate::versions::publish;
 use crate::versions::withdraw;
+use crate::word::Word;
 use machine::counts::Cell;
 use machine::counts::Ticket;
+use machine::job::Job;
 use machine::job::State;
 use machine::step::Act;
 use machine::step::Stepped;
@@ -41,9 +43,9 @@ pub(crate) struct Own {
 
 // What a job sees of all.
 pub(crate) struct Around {
-    pub status: [u8; 16],
-    pub journals: [Journal; 16],
-    pub versions: [Versions; 16],
+    pub status: [u8; Job::MOST as usize],
+    pub journals: [Journal; Job::MOST as usize],
+    pub versions: [Versions; Job::MOST as usize],
 }
 
 // What a turn makes of a job's parts, and whether it may change what is public, so that the higher jobs are to be marked.
@@ -74,9 +76,9 @@ pub(crate) fn own_of(
 }
 
 pub(crate) fn around_of(
-    status: [u8; 16],
-    journals: [Journal; 16],
-    versions: [Versions; 16],
+    status: [u8; Job::MOST as usize],
+    journals: [Journal; Job::MOST as usize],
+    versions: [Versions; Job::MOST as usize],
 ) -> Around
     ensures { λ r. ⌜ r ≡ record { status = status; journals = journals; versions = versions } ⌝ }
 {
@@ -87,15 +89,18 @@ pub(crate) fn around_of(
     }
 }
 
-// Where the checkpoint of the n-th read of the job at place i stands; past the last of its eight, the last.
+// Where the last checkpoint of a job stands among its own.
+const LAST: usize = Block::SLOTS - 1;
+
+// Where the checkpoint of the n-th read of the job at index i stands; past its last, the last.
 pub(crate) fn slot_of(i: usize, n: u8) -> usize
     requires { ⌜ i < 16 ⌝ }
     ensures { λ r. ⌜ (r ≡ slotAt i n) × (r < 128) ⌝ }
 {
-    if 8 <= n {
-        return 8 * i + 7;
+    if Job::FEW <= n {
+        return Block::SLOTS * i + LAST;
     }
-    8 * i + n as usize
+    Block::SLOTS * i + n as usize
 }
 
 // The value of the job's own listed read of a cell.
@@ -121,21 +126,21 @@ fn own_value(j: Journal, r: Reads, c: Cell) -> Shown
     ensures { λ x. ⌜ valueOf x ≡ orElse (lastValue (journalOf j) (c .0)) (listedIn r (c .0)) ⌝ }
 {
     let found = last_entry(j, c);
-    let Found::At(place) = found else {
+    let Found::At(number) = found else {
         return listed_value(r, c);
     };
-    let e = entry_at(j, place);
+    let e = entry_at(j, number);
     Shown::Value(e.value)
 }
 
-// Whether the jobs at the places below i are all final.
-fn all_final(status: [u8; 16], i: u8) -> bool
+// Whether the jobs at the indices below i are all final.
+fn all_final(status: [u8; Job::MOST as usize], i: u8) -> bool
     requires { ⌜ i ≤ 16 ⌝ }
     ensures { λ r. ⌜ r ≡ finalBelow status i ⌝ }
 {
     let mut k = i;
     while 0 < k {
-        if status[(k - 1) as usize] < 2 {
+        if status[(k - 1) as usize] < Block::FINAL {
             return false;
         }
         k = k - 1;
@@ -232,7 +237,7 @@ fn end_with(own: Own, public: Versions) -> Move
     ensures { λ r. ⌜ r ≡ ended own public ⌝ }
 {
     let mut r = own;
-    r.status = 1;
+    r.status = Block::ENDED;
     r.versions = public;
     then_mark(r, Word::End)
 }
@@ -241,7 +246,7 @@ fn settle(own: Own) -> Move
     ensures { λ r. ⌜ r ≡ settledOwn own ⌝ }
 {
     let mut r = own;
-    r.status = 2;
+    r.status = Block::FINAL;
     Move {
         own: r,
         word: Word::Final,
@@ -279,7 +284,7 @@ fn back_to(own: Own, c: Checkpoint) -> Move
     let state = c.state;
     let mut r = own;
     r.state = state;
-    r.status = 0;
+    r.status = Block::RUNNING;
     r.journal = cut_journal(j, c.writes);
     r.versions = withdraw(v, c.writes);
     r.list = cut_reads(list, c.listed);
@@ -290,7 +295,7 @@ fn write_cell(own: Own, next: State, e: Entry) -> Move
     ensures { λ r. ⌜ Moves own AtWrite (λ b i. writing b i next e) r ⌝ }
 {
     let j = own.journal;
-    if 8 <= j.size {
+    if Job::FEW <= j.size {
         return stay(own, Word::Stuck);
     }
     write_to(own, next, e)
@@ -302,7 +307,7 @@ fn read_outside(own: Own, around: Around, first: u64, t: Ticket, next: State, c:
     ensures { λ r. ⌜ Moves own (AtRead around first (t .0) next (c .0)) (λ b i. outside b i (c .0)) r ⌝ }
 {
     let list = own.list;
-    if 8 <= list.size {
+    if Job::FEW <= list.size {
         return stay(own, Word::Stuck);
     }
     let journals = around.journals;
@@ -387,7 +392,7 @@ pub(crate) fn take_own(
     ensures { λ r. ⌜ Moves own (AtTurn step around first back (t .0)) moving r ⌝ }
 {
     let status = own.status;
-    if 2 <= status {
+    if Block::FINAL <= status {
         return stay(own, Word::Idle);
     }
     let list = own.list;
@@ -395,7 +400,7 @@ pub(crate) fn take_own(
     if mark != Reads::UNMARKED {
         return back_to(own, back);
     }
-    if status == 0 {
+    if status == Block::RUNNING {
         return step_or_end(step, own, around, first, t);
     }
     let all = around.status;

@@ -6,20 +6,35 @@ use machine::job::State;
 use machine::step::Stepped;
 use machine::step::instruct;
 ghost use mathlib.Core.Path.{_≡_};
-ghost use mathlib.Core.Bool.{cond};
 ghost use Prim.Native.Nat.{_≤_, _<_};
-ghost use lib.Dec.{ltb};
 ghost use Rattle.machine.specs.Limits.{LONGEST, JOBS};
 ghost use Rattle.machine.specs.View.{codeOf};
-ghost use Rattle.turns.specs.Program.{instructionIn, programOf, stopsOf, AllPacked};
+ghost use Rattle.turns.specs.Program.{argumentByte, pushedOf, packed, instructionIn, programOf, stopsOf, firstJobs, allPacked};
 ghost use Rattle.turns.specs.Alone.{StepsIn, Passes, AllPass};
 
-// An operand as a byte, where it fits one.
-fn argument_of(x: u64) -> u8
-    ensures { λ r. ⌜ r ≡ cond (ltb x 256) x 0 ⌝ }
+// Numbers that a byte holds.
+const BYTES: u64 = 256;
+
+// An operand as a byte, where it fits one; a PUSH has none.
+fn argument_of(i: Instruction) -> u8
+    ensures { λ r. ⌜ r ≡ argumentByte i ⌝ }
 {
-    if x < 256 {
+    if i.code == Instruction::PUSH {
+        return 0;
+    }
+    let x = i.operand;
+    if x < BYTES {
         return x as u8;
+    }
+    0
+}
+
+// The operand of a PUSH; 0 for any other.
+fn pushed_of(i: Instruction) -> u64
+    ensures { λ r. ⌜ r ≡ pushedOf i ⌝ }
+{
+    if i.code == Instruction::PUSH {
+        return i.operand;
     }
     0
 }
@@ -29,9 +44,9 @@ pub(crate) fn stops(size: u8) -> Program
     ensures { λ r. ⌜ r ≡ stopsOf size ⌝ }
 {
     Program {
-        codes: [0; 64],
-        arguments: [0; 64],
-        pushed: [0; 64],
+        codes: [0; Job::LONGEST as usize],
+        arguments: [0; Job::LONGEST as usize],
+        pushed: [0; Job::LONGEST as usize],
         size: size,
     }
 }
@@ -39,29 +54,30 @@ pub(crate) fn stops(size: u8) -> Program
 // A job that passed, in bytes: but for PUSH, its operands are small.
 fn program_of(job: Job) -> Program
     requires { ⌜ Passes job ⌝ }
-    ensures { λ r. ⌜ programOf r ≡ codeOf job ⌝ }
+    ensures { λ r. ⌜ r ≡ packed (codeOf job) ⌝ }
 {
     let mut p = stops(job.size);
     let mut k: u8 = 0;
     while k < job.size {
         let at = k as usize;
         let i = job.code[at];
-        let argument = argument_of(i.operand);
+        let argument = argument_of(i);
+        let pushed = pushed_of(i);
         p.codes[at] = i.code;
         p.arguments[at] = argument;
-        p.pushed[at] = i.operand;
+        p.pushed[at] = pushed;
         k = k + 1;
     }
     p
 }
 
 // The first count jobs in bytes.
-pub(crate) fn programs_of(jobs: [Job; 16], count: u8) -> [Program; 16]
+pub(crate) fn programs_of(jobs: [Job; Job::MOST as usize], count: u8) -> [Program; Job::MOST as usize]
     requires { ⌜ (count ≤ JOBS) × AllPass jobs count ⌝ }
-    ensures { λ r. ⌜ AllPacked jobs count r ⌝ }
+    ensures { λ r. ⌜ r ≡ allPacked (firstJobs count jobs) ⌝ }
 {
     let none = stops(0);
-    let mut all = [none; 16];
+    let mut all = [none; Job::MOST as usize];
     let mut k: u8 = 0;
     while k < count {
         let at = k as usize;

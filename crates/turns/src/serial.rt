@@ -23,7 +23,7 @@ ghost use lib.ListN.{length};
 ghost use Rattle.theory.specs.Serial.{over};
 ghost use Rattle.machine.specs.Limits.{LONGEST, FEW, JOBS, CELLS};
 ghost use Rattle.machine.specs.View.{codeOf};
-ghost use Rattle.turns.specs.View.{journalOf};
+ghost use Rattle.turns.specs.View.{emptyJournal, journalOf};
 ghost use Rattle.turns.specs.SerialRun.{cellsOf, Serves};
 ghost use Rattle.turns.specs.Alone.{StepsIn, Writes, Leaves, Goes, GoesOn, Begins, Passes, AllPass, Applies, RunsJob, RunsAll};
 
@@ -35,14 +35,14 @@ struct Alone {
 }
 
 pub(crate) fn no_entries() -> Journal
-    ensures { λ r. ⌜ journalOf r ≡ [] ⌝ }
+    ensures { λ r. ⌜ (r ≡ emptyJournal) × (journalOf r ≡ []) ⌝ }
 {
     let none = Entry {
         cell: Cell(0),
         value: 0,
     };
     Journal {
-        entries: [none; 8],
+        entries: [none; Job::FEW as usize],
         size: 0,
     }
 }
@@ -53,11 +53,11 @@ fn read_alone(j: Journal, c: Cell, table: &[u64]) -> u64
     ensures { λ r. ⌜ r ≡ over (journalOf j) (cellsOf (now (table .entry))) (c .0) ⌝ }
 {
     let found = last_entry(j, c);
-    let Found::At(place) = found else {
+    let Found::At(number) = found else {
         let at = c.0 as usize;
         return table[at];
     };
-    let e = entry_at(j, place);
+    let e = entry_at(j, number);
     e.value
 }
 
@@ -166,7 +166,7 @@ fn run_job(job: Job, table: &mut [u64])
 }
 
 // So many jobs, one after another.
-fn run_jobs(jobs: [Job; 16], count: u8, table: &mut [u64])
+fn run_jobs(jobs: [Job; Job::MOST as usize], count: u8, table: &mut [u64])
     requires { ⌜ (count ≤ JOBS) × AllPass jobs count × (length (now table) ≡ CELLS) ⌝ }
     ensures { λ _. ⌜ RunsAll jobs count (now (table .entry)) (now (table .exit)) ⌝ }
 {

@@ -6,7 +6,7 @@ use crate::journal::entry_at;
 use crate::serial::copy_table;
 use crate::sizes::block_fits;
 use machine::counts::Cell;
-use machine::counts::Ticket;
+use machine::job::Job;
 ghost use mathlib.Core.Path.{_≡_};
 ghost use Prim.Native.Nat.{_≤_};
 ghost use lib.ListN.{length};
@@ -32,14 +32,14 @@ pub struct Settled {
 fn final_one(status: u8) -> u8
     ensures { λ r. ⌜ r ≡ finalOne status ⌝ }
 {
-    if status < 2 {
+    if status < Block::FINAL {
         return 0;
     }
     1
 }
 
 // How many of the first count jobs are final.
-fn count_finals(status: [u8; 16], count: u8) -> u8
+fn count_finals(status: [u8; Job::MOST as usize], count: u8) -> u8
     requires { ⌜ count ≤ JOBS ⌝ }
     ensures { λ r. ⌜ r ≡ finalsBelow status count ⌝ }
 {
@@ -60,8 +60,8 @@ fn apply_versions(j: Journal, v: Versions, table: &mut [u64])
 {
     let mut k = v.size;
     while 0 < k {
-        let place = v.places[(k - 1) as usize];
-        let e = entry_at(j, place);
+        let number = v.numbers[(k - 1) as usize];
+        let e = entry_at(j, number);
         let at = e.cell.0 as usize;
         table[at] = e.value;
         k = k - 1;
@@ -69,13 +69,13 @@ fn apply_versions(j: Journal, v: Versions, table: &mut [u64])
 }
 
 // The start table, and over it what the jobs of the tickets 1 to f show, in their order: each cell as a reader above them finds it.
-fn settle_cells(b: Block, f: Ticket, table: &mut [u64])
-    requires { ⌜ (f .0 ≤ JOBS) × Settleable b (f .0) × (length (now table) ≡ CELLS) ⌝ }
-    ensures { λ _. ⌜ now (table .exit) ≡ tab CELLS (cellFound b (f .0)) ⌝ }
+fn settle_cells(b: Block, f: u8, table: &mut [u64])
+    requires { ⌜ (f ≤ JOBS) × Settleable b f × (length (now table) ≡ CELLS) ⌝ }
+    ensures { λ _. ⌜ now (table .exit) ≡ tab CELLS (cellFound b f) ⌝ }
 {
     copy_table(&b.start, table);
     let mut k: u8 = 0;
-    while k < f.0 {
+    while k < f {
         let j = b.journals[k as usize];
         let v = b.versions[k as usize];
         apply_versions(j, v, table);
@@ -101,7 +101,7 @@ pub fn settled_table(b: Block, table: &mut [u64]) -> Settled
     }
     let status = b.status;
     let f = count_finals(status, b.count);
-    settle_cells(b, Ticket(f), table);
+    settle_cells(b, f, table);
     Settled {
         answer: Settling::Written,
         f: f,

@@ -22,7 +22,7 @@ ghost use Rattle.theory.specs.Engine.{blockFits};
 ghost use Rattle.machine.specs.Limits.{JOBS};
 ghost use Rattle.turns.specs.Box.{limits, box};
 ghost use Rattle.turns.specs.Block.{blockOf};
-ghost use Rattle.turns.specs.View.{placeAt};
+ghost use Rattle.turns.specs.View.{numberAt};
 ghost use Rattle.turns.specs.Sizes.{byCode, keepsAt, bytesWithin, keptOf, standsIn, entryWithin, journalWithin, versionsWithin, readWithin, readsWithin, markWithin, jobWithin, listed};
 
 // What the jumps have, what DUP and SWAP have, and what all others have.
@@ -47,7 +47,7 @@ fn keeps(code: u8, argument: u8, next: u8, size: u8) -> bool
     ensures { λ r. ⌜ r ≡ keepsAt size (next - 1) code argument ⌝ }
 {
     let above = by_code(code, next, 1, 0) <= argument;
-    let below = argument < by_code(code, size, 16, 1);
+    let below = argument < by_code(code, size, Job::ROOM, 1);
     let within = both(above, below);
     let any = code == Instruction::PUSH;
     let free = either(any, within);
@@ -55,12 +55,12 @@ fn keeps(code: u8, argument: u8, next: u8, size: u8) -> bool
 }
 
 // The place after each: a count would be compared eight bytes wide.
-fn next_places() -> [u8; 64]
+fn next_places() -> [u8; Job::LONGEST as usize]
     ensures { λ r. ⌜ r ≡ tab 64 suc ⌝ }
 {
-    let mut all = [0; 64];
+    let mut all = [0; Job::LONGEST as usize];
     let mut k: u8 = 0;
-    while k < 64 {
+    while k < Job::LONGEST {
         let next = k + 1;
         all[k as usize] = next;
         k = next;
@@ -69,7 +69,7 @@ fn next_places() -> [u8; 64]
 }
 
 // A job's instructions are few, and each keeps to 5 and 6.
-fn code_fits(codes: [u8; 64], arguments: [u8; 64], size: u8) -> bool
+fn code_fits(codes: [u8; Job::LONGEST as usize], arguments: [u8; Job::LONGEST as usize], size: u8) -> bool
     ensures { λ r. ⌜ r ≡ bytesWithin codes arguments size ⌝ }
 {
     if Job::LONGEST < size {
@@ -123,12 +123,12 @@ fn journal_fits(j: Journal) -> bool
 
 // The entry that a version names; past the array's end a version names nothing.
 fn version_at(v: Versions, k: u8) -> u8
-    ensures { λ r. ⌜ r ≡ placeAt v k ⌝ }
+    ensures { λ r. ⌜ r ≡ numberAt v k ⌝ }
 {
     if Job::FEW <= k {
-        return 255;
+        return Versions::NOTHING;
     }
-    v.places[k as usize]
+    v.numbers[k as usize]
 }
 
 // Each version names an entry of a journal of so many.
@@ -138,8 +138,8 @@ fn versions_fit(v: Versions, entries: u8) -> bool
     let n = v.size;
     let mut k: u8 = 0;
     while k < n {
-        let place = version_at(v, k);
-        if entries <= place {
+        let number = version_at(v, k);
+        if entries <= number {
             return false;
         }
         k = k + 1;
@@ -178,7 +178,7 @@ pub(crate) fn kept_of(
     c5: Checkpoint,
     c6: Checkpoint,
     c7: Checkpoint,
-) -> [Kept; 8]
+) -> [Kept; Job::FEW as usize]
     ensures { λ r. ⌜ r ≡ keptOf c0 ∷ keptOf c1 ∷ keptOf c2 ∷ keptOf c3 ∷ keptOf c4 ∷ keptOf c5 ∷ keptOf c6 ∷ keptOf c7 ∷ [] ⌝ }
 {
     let k0 = kept_one(c0);
@@ -210,7 +210,7 @@ fn read_fits(r: Read, c: Kept, i: u8, before: u8, size: u8) -> bool
 }
 
 // The reads are few; no checkpoint has fewer entries than the one before it, and none more than the journal.
-fn reads_fit(rs: Reads, cs: [Kept; 8], size: u8, entries: u8) -> bool
+fn reads_fit(rs: Reads, cs: [Kept; Job::FEW as usize], size: u8, entries: u8) -> bool
     ensures { λ r. ⌜ r ≡ readsWithin size entries rs (listed cs) ⌝ }
 {
     let n = rs.size;
@@ -248,7 +248,7 @@ pub(crate) fn job_fits(
     journal: Journal,
     versions: Versions,
     reads: Reads,
-    cs: [Kept; 8],
+    cs: [Kept; Job::FEW as usize],
 ) -> bool
     ensures { λ r. ⌜ r ≡ jobWithin job state journal versions reads (listed cs) ⌝ }
 {
@@ -279,7 +279,7 @@ pub(crate) fn job_fits(
 pub(crate) fn jobs_in(count: u8) -> usize
     ensures { λ r. ⌜ r ≡ cond (leb count JOBS) count 0 ⌝ }
 {
-    if 16 < count {
+    if Job::MOST < count {
         return 0;
     }
     count as usize
@@ -308,10 +308,10 @@ pub(crate) fn block_fits(b: Block) -> bool
     ensures { λ r. ⌜ r ≡ blockFits limits box (blockOf b) ⌝ }
 {
     let count = jobs_in(b.count);
-    let mut fits = b.count <= 16;
+    let mut fits = b.count <= Job::MOST;
     let mut k: usize = 0;
     while k < count {
-        let at = 8 * k;
+        let at = Block::SLOTS * k;
         let c0 = b.checkpoints[at];
         let c1 = b.checkpoints[at + 1];
         let c2 = b.checkpoints[at + 2];

@@ -21,12 +21,14 @@ use crate::sizes::both;
 use crate::sizes::job_fits;
 use crate::sizes::jobs_in;
 use crate::sizes::kept_of;
+use crate::word::Word;
 use machine::counts::Ticket;
+use machine::job::Job;
 use machine::job::State;
 use machine::step::Act;
 use machine::step::Stepped;
 ghost use mathlib.Core.Path.{_≡_};
-ghost use mathlib.Core.Bool.{false, not, _||_};
+ghost use mathlib.Core.Bool.{false, not, cond, _||_};
 ghost use Prim.Native.Nat.{_-_, _≤_, _<_};
 ghost use lib.ListN.{set};
 ghost use Rattle.machine.specs.Limits.{LONGEST};
@@ -34,33 +36,22 @@ ghost use Rattle.turns.specs.Turn.{foreign, refusing, Turns};
 ghost use Rattle.turns.specs.Own.{showsOf, markedBy, AtTurn, Ready, StepsIf, MovesIf, MayMark};
 ghost use Rattle.turns.specs.Change.{changeBy, Changes};
 
-pub enum Word {
-    Idle,
-    Back,
-    Step,
-    End,
-    Final,
-    Wait,
-    BadTicket,
-    Stuck,
-}
-
 // The block stands first, so that it is handed over in one piece.
 pub struct Turned {
     pub block: Block,
     pub word: Word,
 }
 
-// What a turn changes of a block: the parts of the job at a place, the checkpoint in a slot, and the lists of reads, among
+// What a turn changes of a block: the parts of the job at an index, the checkpoint in a slot, and the lists of reads, among
 // which it may mark.
 pub struct Change {
-    pub reads: [Reads; 16],
+    pub reads: [Reads; Job::MOST as usize],
     pub state: State,
     pub journal: Journal,
     pub saved: Checkpoint,
     pub versions: Versions,
     pub status: u8,
-    pub place: usize,
+    pub index: usize,
     pub slot: usize,
     pub word: Word,
 }
@@ -75,8 +66,8 @@ fn is_foreign(t: Ticket, count: u8) -> bool
     count < t.0
 }
 
-// The place of a ticket of the block.
-pub(crate) fn place_of(t: Ticket) -> usize
+// The index of the job with a ticket of the block.
+pub(crate) fn index_of(t: Ticket) -> usize
     requires { ⌜ (0 < t .0) × (t .0 ≤ 16) ⌝ }
     ensures { λ r. ⌜ (r ≡ t .0 - 1) × (r < 16) ⌝ }
 {
@@ -103,15 +94,15 @@ fn refusal(foreign: bool) -> Word
     Word::Stuck
 }
 
-// The place of a ticket; the first for a refused one.
-fn place_in(t: Ticket, refused: bool) -> usize
+// The index of a ticket's job; the first for a refused one.
+fn index_in(t: Ticket, refused: bool) -> usize
     requires { ⌜ (refused ≡ false → (0 < t .0) × (t .0 ≤ 16)) ⌝ }
-    ensures { λ r. ⌜ (refused ≡ false → r ≡ t .0 - 1) × (r < 16) ⌝ }
+    ensures { λ r. ⌜ (r ≡ cond refused 0 (t .0 - 1)) × (r < 16) ⌝ }
 {
     if refused {
         return 0;
     }
-    place_of(t)
+    index_of(t)
 }
 
 // The step that the job would take; none for a refused ticket.
@@ -152,7 +143,7 @@ fn take_or_refuse(
 fn change_by(
     done: Move,
     own: Own,
-    lists: [Reads; 16],
+    lists: [Reads; Job::MOST as usize],
     count: u8,
     t: Ticket,
     i: usize,
@@ -180,7 +171,7 @@ fn change_by(
         saved: saved,
         versions: versions,
         status: after.status,
-        place: i,
+        index: i,
         slot: slot,
         word: word,
     }
@@ -192,10 +183,10 @@ pub fn change_of(b: Block, t: Ticket) -> Change
     ensures { λ r. ⌜ Changes b (t .0) r ⌝ }
 {
     let count = jobs_in(b.count);
-    let mut fits = b.count <= 16;
+    let mut fits = b.count <= Job::MOST;
     let mut k: usize = 0;
     while k < count {
-        let at = 8 * k;
+        let at = Block::SLOTS * k;
         let c0 = b.checkpoints[at];
         let c1 = b.checkpoints[at + 1];
         let c2 = b.checkpoints[at + 2];
@@ -212,7 +203,7 @@ pub fn change_of(b: Block, t: Ticket) -> Change
         k = k + 1;
     }
     let refused = is_refused(t, b.count, fits);
-    let i = place_in(t, refused);
+    let i = index_in(t, refused);
     let list = b.reads[i];
     let slot = slot_of(i, list.size);
     let here = b.checkpoints[slot];
@@ -233,7 +224,7 @@ pub fn turn(mut b: Block, t: Ticket) -> Turned
     ensures { λ r. ⌜ Turns b (t .0) r ⌝ }
 {
     let c = change_of(b, t);
-    let i = c.place;
+    let i = c.index;
     let slot = c.slot;
     let state = c.state;
     let journal = c.journal;

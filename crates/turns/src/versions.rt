@@ -5,12 +5,13 @@ use crate::journal::Found;
 use crate::journal::entry_at;
 use machine::counts::Cell;
 use machine::counts::Ticket;
+use machine::job::Job;
 ghost use mathlib.Core.Path.{_≡_};
 ghost use mathlib.Core.List.{_++_, _∷_, []};
 ghost use Prim.Native.Nat.{suc, _≤_, _<_};
 ghost use lib.ListN.{drop};
 ghost use Rattle.theory.specs.Engine.{valueAt, shownAt, writes?, published, withdrawn};
-ghost use Rattle.turns.specs.View.{journalOf, versionsOf, placeOf, valueOf, versionOf, foundIn, lastOne, keptOne, Showing, ShowingBelow};
+ghost use Rattle.turns.specs.View.{emptyVersions, journalOf, versionsOf, foundOf, valueOf, versionOf, foundIn, lastOne, keptOne, Showing, ShowingBelow};
 
 // A version that a reader finds: its source ticket, 0 for the start table, and its value.
 pub struct Version {
@@ -19,44 +20,44 @@ pub struct Version {
 }
 
 pub(crate) fn no_versions() -> Versions
-    ensures { λ r. ⌜ versionsOf r ≡ [] ⌝ }
+    ensures { λ r. ⌜ (r ≡ emptyVersions) × (versionsOf r ≡ []) ⌝ }
 {
     Versions {
-        places: [0; 8],
+        numbers: [0; Job::FEW as usize],
         size: 0,
     }
 }
 
-fn with_version(v: Versions, place: u8) -> Versions
+fn with_version(v: Versions, number: u8) -> Versions
     requires { ⌜ v .size < 8 ⌝ }
-    ensures { λ r. ⌜ versionsOf r ≡ versionsOf v ++ (place ∷ []) ⌝ }
+    ensures { λ r. ⌜ versionsOf r ≡ versionsOf v ++ (number ∷ []) ⌝ }
 {
     let n = v.size;
     let mut r = v;
-    r.places[n as usize] = place;
+    r.numbers[n as usize] = number;
     r.size = n + 1;
     r
 }
 
-// The place from which the versions of a journal show a cell.
+// The entry from which the versions of a journal show a cell.
 pub(crate) fn shown_at(j: Journal, v: Versions, c: Cell) -> Found
     requires { ⌜ Showing j v ⌝ }
-    ensures { λ r. ⌜ placeOf r ≡ shownAt (journalOf j) (versionsOf v) (c .0) ⌝ }
+    ensures { λ r. ⌜ foundOf r ≡ shownAt (journalOf j) (versionsOf v) (c .0) ⌝ }
 {
     let n = v.size;
     let mut k: u8 = 0;
     while k < n {
-        let place = v.places[k as usize];
-        let e = entry_at(j, place);
+        let number = v.numbers[k as usize];
+        let e = entry_at(j, number);
         if e.cell.0 == c.0 {
-            return Found::At(place);
+            return Found::At(number);
         }
         k = k + 1;
     }
     Found::Nowhere
 }
 
-// Whether an entry after place k writes this cell.
+// Whether an entry after the k-th writes this cell.
 fn written_later(j: Journal, k: u8, c: Cell) -> bool
     requires { ⌜ (j .size ≤ 8) × (k < j .size) ⌝ }
     ensures { λ r. ⌜ r ≡ writes? (drop (suc k) (journalOf j)) (c .0) ⌝ }
@@ -73,7 +74,7 @@ fn written_later(j: Journal, k: u8, c: Cell) -> bool
     false
 }
 
-// One version more if the entry at a place is the last of its cell.
+// One version more if the k-th entry is the last of its cell.
 fn with_last(j: Journal, v: Versions, k: u8) -> Versions
     requires { ⌜ (j .size ≤ 8) × (k < j .size) × (v .size ≤ k) ⌝ }
     ensures { λ r. ⌜ versionsOf r ≡ versionsOf v ++ lastOne (journalOf j) k ⌝ }
@@ -102,12 +103,12 @@ pub(crate) fn publish(j: Journal) -> Versions
 }
 
 // One version more if its entry stays, that is, stands before the n-th.
-fn with_kept(v: Versions, place: u8, n: u8) -> Versions
+fn with_kept(v: Versions, number: u8, n: u8) -> Versions
     requires { ⌜ v .size < 8 ⌝ }
-    ensures { λ r. ⌜ versionsOf r ≡ versionsOf v ++ keptOne n place ⌝ }
+    ensures { λ r. ⌜ versionsOf r ≡ versionsOf v ++ keptOne n number ⌝ }
 {
-    if place < n {
-        return with_version(v, place);
+    if number < n {
+        return with_version(v, number);
     }
     v
 }
@@ -121,8 +122,8 @@ pub(crate) fn withdraw(v: Versions, n: u8) -> Versions
     let mut kept = no_versions();
     let mut k: u8 = 0;
     while k < size {
-        let place = v.places[k as usize];
-        kept = with_kept(kept, place, n);
+        let number = v.numbers[k as usize];
+        kept = with_kept(kept, number, n);
         k = k + 1;
     }
     kept
@@ -139,18 +140,18 @@ fn version_of(j: Journal, v: Versions, c: Cell) -> Shown
     ensures { λ r. ⌜ valueOf r ≡ valueAt (journalOf j) (shownAt (journalOf j) (versionsOf v) (c .0)) ⌝ }
 {
     let found = shown_at(j, v, c);
-    let Found::At(place) = found else {
+    let Found::At(number) = found else {
         return Shown::Nothing;
     };
-    let e = entry_at(j, place);
+    let e = entry_at(j, number);
     Shown::Value(e.value)
 }
 
 // What a reader finds for a cell whose start value is given, with the jobs of the tickets 1 to t below it:
 // by recursion on the ticket, which falls to 0, the start table.
 pub(crate) fn find_version(
-    journals: [Journal; 16],
-    versions: [Versions; 16],
+    journals: [Journal; Job::MOST as usize],
+    versions: [Versions; Job::MOST as usize],
     start: u64,
     c: Cell,
     t: Ticket,

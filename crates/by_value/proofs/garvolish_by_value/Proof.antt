@@ -11,16 +11,22 @@ use Rattle.by_value.proofs.garvolish_by_value.Statement.{statement}
 use Rattle.by_value.proofs.garvolish_by_value.Tie as tie
 
 abbrev Inv-loop : tie.InvT-loop
-Inv-loop start paper tickets words₀ block₀ k₀ words block k = Going (openBlock start paper) tickets (blockOf block) k words
+Inv-loop start paper tickets words₀ number block₀ k₀ words block k = Going (openBlock start paper) tickets (blockOf block) k words
 
 abbrev μ-loop : tie.MeasureT-loop
-μ-loop start paper tickets words₀ block₀ k₀ words block k = length tickets - k
+μ-loop start paper tickets words₀ number block₀ k₀ words block k = length tickets - k
+
+open-requires : tie.Need-open-requires Inv-loop μ-loop
+open-requires c κs = search (hand-laws, needs)
+
+number-of-opening-requires : tie.Need-number-of-opening-requires Inv-loop μ-loop
+number-of-opening-requires c κs = search (hand-laws, needs)
 
 returns : tie.Need-returns Inv-loop μ-loop
 returns c = search (hand-laws, needs)
 
-open-requires : tie.Need-open-requires Inv-loop μ-loop
-open-requires c κs = search (hand-laws, needs)
+returns-2 : tie.Need-returns-2 Inv-loop μ-loop
+returns-2 c = search (hand-laws, needs)
 
 loop-holds : tie.Need-loop-holds Inv-loop μ-loop
 loop-holds c = search (hand-laws, needs)
@@ -34,8 +40,8 @@ shared-slice-read-words c = search (hand-laws, needs)
 turn-requires : tie.Need-turn-requires Inv-loop μ-loop
 turn-requires c κs = search (hand-laws, needs)
 
-byte-of-requires : tie.Need-byte-of-requires Inv-loop μ-loop
-byte-of-requires c κs = search (hand-laws, needs)
+byte-requires : tie.Need-byte-requires Inv-loop μ-loop
+byte-requires c κs = search (hand-laws, needs)
 
 slice-write-words : tie.Need-slice-write-words Inv-loop μ-loop
 slice-write-words c = search (hand-laws, needs)
@@ -49,8 +55,8 @@ loop-again c = search (hand-laws, needs)
 same-length : tie.Need-same-length Inv-loop μ-loop
 same-length c = search (hand-laws, needs)
 
-returns-2 : tie.Need-returns-2 Inv-loop μ-loop
-returns-2 c = search (hand-laws, needs)
+returns-3 : tie.Need-returns-3 Inv-loop μ-loop
+returns-3 c = search (hand-laws, needs)
 
 pub garvolish-by-value-spec : {M : Type 1} → statement M
 garvolish-by-value-spec =
@@ -58,15 +64,17 @@ garvolish-by-value-spec =
     (tie.spec
     Inv-loop
     μ-loop
-    returns
     open-requires
+    number-of-opening-requires
+    returns
+    returns-2
     loop-holds
     add-k
     shared-slice-read-words
     turn-requires
-    byte-of-requires
+    byte-requires
     slice-write-words
     loop-less
     loop-again
     same-length
-    returns-2)
+    returns-3)

@@ -54,7 +54,7 @@ use Rattle.turns.specs.Turn.{wordOf}
 use Rattle.turns.specs.Change.{changed, Changes}
 use Rattle.turns.specs.declared.block.Block.{Block}
 use Rattle.turns.specs.declared.turn.Change.{Change}
-use Rattle.turns.specs.declared.turn.Word.{Word}
+use Rattle.turns.specs.declared.word.Word.{Word}
 use Rattle.turns.proofs.block.Block as T
 use Rattle.turns.proofs.block.Block.Laws as T′
 use Rattle.turns.proofs.block.Checkpoint as Ck
@@ -67,8 +67,8 @@ use Rattle.turns.proofs.block.Versions as Vn
 use Rattle.turns.proofs.block.Versions.Laws as Vn′
 use Rattle.turns.proofs.turn.Change as R
 use Rattle.turns.proofs.turn.Change.Laws as R′
-use Rattle.turns.proofs.turn.Word as Wd
-use Rattle.turns.proofs.turn.Word.Laws as Wd′
+use Rattle.turns.proofs.word.Word as Wd
+use Rattle.turns.proofs.word.Word.Laws as Wd′
 use Rattle.turns.proofs.turn.change_of as changing
 use Rattle.turns.proofs.turn.change_of.Symbol as changing-def
 use Rattle.turns.proofs.turn.change_of.Symbol.{name as #change-of}
@@ -108,7 +108,7 @@ part k c = valAt Fs R′.the-laws k (getAt Fs k (R.struct .as-values c))
 
 -- the machine value and type of a `Change`, spelled out as far as its fields
 abbrev changeVal : Change → Val
-changeVal c = vstruct (vcons (part 0 c) (vcons (part 1 c) (vcons (part 2 c) (vcons (part 3 c) (vcons (part 4 c) (vcons (vint w8 (c .status)) (vcons (vint w64 (c .place)) (vcons (vint w64 (c .slot)) (vcons (part 8 c) vnil)))))))))
+changeVal c = vstruct (vcons (part 0 c) (vcons (part 1 c) (vcons (part 2 c) (vcons (part 3 c) (vcons (part 4 c) (vcons (vint w8 (c .status)) (vcons (vint w64 (c .index)) (vcons (vint w64 (c .slot)) (vcons (part 8 c) vnil)))))))))
 
 abbrev changeTy : Ty
 changeTy = tyStruct (nameOf R′.mir) (tcons (tyArray Rd′.mir 16) (tcons St′.mir (tcons Jn′.mir (tcons Ck′.mir (tcons Vn′.mir (tcons (tyInt w8) (tcons (tyInt w64) (tcons (tyInt w64) (tcons Wd′.mir tnil)))))))))
@@ -201,38 +201,38 @@ module _ {M : Type 1} (𝓤 : URA M) (H : Heap 𝓤) (A : Atoms 𝓤) (W : Given
         -- [the block in memory; the open borrow; obs; auth; _18; …; _17; …; …; _1; …; room for _0; …]
         assigns ! (of-opd ! (load ! (from ! (fld ! {τ = tyInt w64} {d = in-change 6} refl (stop !))) (look-in ! 34 (sub ! 6 {τ = tyInt w64} {d = in-change 6} refl (whole !))))) (from ! (stop !)) (init ! 32 refl (tt, record { fits = field-is c v is 6 .1 })) $
         assigns ! (of-opd ! (load ! (from ! (fld ! {τ = tyInt w64} {d = in-change 7} refl (stop !))) (look-in ! 34 (sub ! 7 {τ = tyInt w64} {d = in-change 7} refl (whole !))))) (from ! (stop !)) (init ! 30 refl (tt, record { fits = field-is c v is 7 .1 })) $
-        -- block.states[c.place] = c.state
-        assigns ! (bin ! (load ! (from ! (stop !)) (look ! 32 refl)) (lit ! tt) (scaled-fits (c .place) 16 _ (e .place) (lit< tt))) (from ! (stop !)) (init ! 24 refl (tt, scaled-fits (c .place) 16 _ (e .place) (lit< tt))) $
+        -- block.states[c.index] = c.state
+        assigns ! (bin ! (load ! (from ! (stop !)) (look ! 32 refl)) (lit ! tt) (scaled-fits (c .index) 16 _ (e .inside) (lit< tt))) (from ! (stop !)) (init ! 24 refl (tt, scaled-fits (c .index) 16 _ (e .inside) (lit< tt))) $
         assigns ! (addr ! (from ! (hop ! (look ! 38 refl) (fld ! {τ = tyArray St′.mir 16} {d = in-block 3} refl (stop !))))) (from ! (stop !)) (init ! 22 refl (tt, tt)) $
         assigns ! (bin ! (load ! (from ! (stop !)) (look ! 22 refl)) (load ! (from ! (stop !)) (look ! 24 refl)) tt) (from ! (stop !)) (init ! 20 refl (tt, tt)) $
         assigns ! (of-opd ! (load ! (from ! (fld ! {τ = St′.mir} {d = in-change 1} refl (stop !))) (look-in ! 34 (sub ! 1 {τ = St′.mir} {d = in-change 1} refl (whole !))))) (from ! (hop ! (look ! 20 refl) (stop !)))
-        (store-within ! 0 St.the-field St′.the-field-laws St′.the-field-plain refl (c .state) (item-within 𝓤 H A W St.the-field 16 tt (h .states) (c .place) (c .state) (e .place) refl (field-within 𝓤 H A W 3 (in-block 3) refl refl _ b o)) refl (field-is c v is 1)) $
-        -- block.status[c.place] = c.status
+        (store-within ! 0 St.the-field St′.the-field-laws St′.the-field-plain refl (c .state) (item-within 𝓤 H A W St.the-field 16 tt (h .states) (c .index) (c .state) (e .inside) refl (field-within 𝓤 H A W 3 (in-block 3) refl refl _ b o)) refl (field-is c v is 1)) $
+        -- block.status[c.index] = c.status
         assigns ! (addr ! (from ! (hop ! (look ! 38 refl) (fld ! {τ = tyArray (tyInt w8) 16} {d = in-block 4} refl (stop !))))) (from ! (stop !)) (init ! 18 refl (tt, tt)) $
         assigns ! (bin ! (load ! (from ! (stop !)) (look ! 18 refl)) (load ! (from ! (stop !)) (look ! 32 refl)) tt) (from ! (stop !)) (init ! 16 refl (tt, tt)) $
         assigns ! (of-opd ! (load ! (from ! (fld ! {τ = tyInt w8} {d = in-change 5} refl (stop !))) (look-in ! 34 (sub ! 5 {τ = tyInt w8} {d = in-change 5} refl (whole !))))) (from ! (hop ! (look ! 16 refl) (stop !)))
-        (store-within ! 0 u8-field LL.u8-laws LL.u8-plain refl (c .status) (item-within 𝓤 H A W u8-field 16 tt (h .status) (c .place) (c .status) (e .place) (mul-one (c .place)) (field-within 𝓤 H A W 4 (in-block 4) refl refl _ b o)) refl (field-is c v is 5)) $
-        -- block.journals[c.place] = c.journal
-        assigns ! (bin ! (load ! (from ! (stop !)) (look ! 32 refl)) (lit ! tt) (scaled-fits (c .place) 16 _ (e .place) (lit< tt))) (from ! (stop !)) (store ! 24 refl (tt, scaled-fits (c .place) 16 _ (e .place) (lit< tt))) $
+        (store-within ! 0 u8-field LL.u8-laws LL.u8-plain refl (c .status) (item-within 𝓤 H A W u8-field 16 tt (h .status) (c .index) (c .status) (e .inside) (mul-one (c .index)) (field-within 𝓤 H A W 4 (in-block 4) refl refl _ b o)) refl (field-is c v is 5)) $
+        -- block.journals[c.index] = c.journal
+        assigns ! (bin ! (load ! (from ! (stop !)) (look ! 32 refl)) (lit ! tt) (scaled-fits (c .index) 16 _ (e .inside) (lit< tt))) (from ! (stop !)) (store ! 24 refl (tt, scaled-fits (c .index) 16 _ (e .inside) (lit< tt))) $
         assigns ! (addr ! (from ! (hop ! (look ! 38 refl) (fld ! {τ = tyArray Jn′.mir 16} {d = in-block 5} refl (stop !))))) (from ! (stop !)) (init ! 14 refl (tt, tt)) $
         assigns ! (bin ! (load ! (from ! (stop !)) (look ! 14 refl)) (load ! (from ! (stop !)) (look ! 24 refl)) tt) (from ! (stop !)) (init ! 12 refl (tt, tt)) $
         assigns ! (of-opd ! (load ! (from ! (fld ! {τ = Jn′.mir} {d = in-change 2} refl (stop !))) (look-in ! 34 (sub ! 2 {τ = Jn′.mir} {d = in-change 2} refl (whole !))))) (from ! (hop ! (look ! 12 refl) (stop !)))
-        (store-within ! 0 Jn.the-field Jn′.the-field-laws Jn′.the-field-plain refl (c .journal) (item-within 𝓤 H A W Jn.the-field 16 tt (h .journals) (c .place) (c .journal) (e .place) refl (field-within 𝓤 H A W 5 (in-block 5) refl refl _ b o)) refl (field-is c v is 2)) $
-        -- block.versions[c.place] = c.versions
-        assigns ! (bin ! (load ! (from ! (stop !)) (look ! 32 refl)) (lit ! tt) (scaled-fits (c .place) 16 _ (e .place) (lit< tt))) (from ! (stop !)) (store ! 24 refl (tt, scaled-fits (c .place) 16 _ (e .place) (lit< tt))) $
+        (store-within ! 0 Jn.the-field Jn′.the-field-laws Jn′.the-field-plain refl (c .journal) (item-within 𝓤 H A W Jn.the-field 16 tt (h .journals) (c .index) (c .journal) (e .inside) refl (field-within 𝓤 H A W 5 (in-block 5) refl refl _ b o)) refl (field-is c v is 2)) $
+        -- block.versions[c.index] = c.versions
+        assigns ! (bin ! (load ! (from ! (stop !)) (look ! 32 refl)) (lit ! tt) (scaled-fits (c .index) 16 _ (e .inside) (lit< tt))) (from ! (stop !)) (store ! 24 refl (tt, scaled-fits (c .index) 16 _ (e .inside) (lit< tt))) $
         assigns ! (addr ! (from ! (hop ! (look ! 38 refl) (fld ! {τ = tyArray Vn′.mir 16} {d = in-block 6} refl (stop !))))) (from ! (stop !)) (init ! 10 refl (tt, tt)) $
         assigns ! (bin ! (load ! (from ! (stop !)) (look ! 10 refl)) (load ! (from ! (stop !)) (look ! 24 refl)) tt) (from ! (stop !)) (init ! 8 refl (tt, tt)) $
         assigns ! (of-opd ! (load ! (from ! (fld ! {τ = Vn′.mir} {d = in-change 4} refl (stop !))) (look-in ! 34 (sub ! 4 {τ = Vn′.mir} {d = in-change 4} refl (whole !))))) (from ! (hop ! (look ! 8 refl) (stop !)))
-        (store-within ! 0 Vn.the-field Vn′.the-field-laws Vn′.the-field-plain refl (c .versions) (item-within 𝓤 H A W Vn.the-field 16 tt (h .versions) (c .place) (c .versions) (e .place) refl (field-within 𝓤 H A W 6 (in-block 6) refl refl _ b o)) refl (field-is c v is 4)) $
+        (store-within ! 0 Vn.the-field Vn′.the-field-laws Vn′.the-field-plain refl (c .versions) (item-within 𝓤 H A W Vn.the-field 16 tt (h .versions) (c .index) (c .versions) (e .inside) refl (field-within 𝓤 H A W 6 (in-block 6) refl refl _ b o)) refl (field-is c v is 4)) $
         -- block.reads = c.reads
         assigns ! (of-opd ! (load ! (from ! (fld ! {τ = tyArray Rd′.mir 16} {d = in-change 0} refl (stop !))) (look-in ! 34 (sub ! 0 {τ = tyArray Rd′.mir 16} {d = in-change 0} refl (whole !))))) (from ! (hop ! (look ! 38 refl) (fld ! {τ = tyArray Rd′.mir 16} {d = in-block 7} refl (stop !))))
         (store-within ! 0 (FieldAt Fs 0) (LL.array-laws Rd.the-field Rd′.the-field-laws 16) (LL.array-plain Rd.the-field Rd′.the-field-plain 16) refl (c .reads) (field-within 𝓤 H A W 7 (in-block 7) refl refl _ b o (c .reads)) refl (field-is c v is 0)) $
         -- block.checkpoints[c.slot] = c.saved
-        assigns ! (bin ! (load ! (from ! (stop !)) (look ! 30 refl)) (lit ! tt) (scaled-fits (c .slot) 128 _ (e .slot) (lit< tt))) (from ! (stop !)) (store ! 24 refl (tt, scaled-fits (c .slot) 128 _ (e .slot) (lit< tt))) $
+        assigns ! (bin ! (load ! (from ! (stop !)) (look ! 30 refl)) (lit ! tt) (scaled-fits (c .slot) 128 _ (e .within) (lit< tt))) (from ! (stop !)) (store ! 24 refl (tt, scaled-fits (c .slot) 128 _ (e .within) (lit< tt))) $
         assigns ! (addr ! (from ! (hop ! (look ! 38 refl) (fld ! {τ = tyArray Ck′.mir 128} {d = in-block 8} refl (stop !))))) (from ! (stop !)) (init ! 6 refl (tt, tt)) $
         assigns ! (bin ! (load ! (from ! (stop !)) (look ! 6 refl)) (load ! (from ! (stop !)) (look ! 24 refl)) tt) (from ! (stop !)) (init ! 4 refl (tt, tt)) $
         assigns ! (of-opd ! (load ! (from ! (fld ! {τ = Ck′.mir} {d = in-change 3} refl (stop !))) (look-in ! 34 (sub ! 3 {τ = Ck′.mir} {d = in-change 3} refl (whole !))))) (from ! (hop ! (look ! 4 refl) (stop !)))
-        (store-within ! 0 Ck.the-field Ck′.the-field-laws Ck′.the-field-plain refl (c .saved) (item-within 𝓤 H A W Ck.the-field 128 tt (h .checkpoints) (c .slot) (c .saved) (e .slot) refl (field-within 𝓤 H A W 8 (in-block 8) refl refl _ b o)) refl (field-is c v is 3)) $
+        (store-within ! 0 Ck.the-field Ck′.the-field-laws Ck′.the-field-plain refl (c .saved) (item-within 𝓤 H A W Ck.the-field 128 tt (h .checkpoints) (c .slot) (c .saved) (e .within) refl (field-within 𝓤 H A W 8 (in-block 8) refl refl _ b o)) refl (field-is c v is 3)) $
         owned ! Wd.the-row (Is Wd.the-row) (LE.makes Wd.the-type Wd′.the-plain 𝓤 H A) (c .word) _ (field-is c v is 8) $ use1 W (raw (Number 𝓤 H A at-mem run .pre (to-word c))) (goes-word c) $
         calls-at ! fm (Number 𝓤 H A at-mem run) known-word (to-word c) (and-then ! (load ! (from ! (fld ! {τ = Wd′.mir} {d = in-change 8} refl (stop !))) (look-in ! 35 (sub ! 8 {τ = Wd′.mir} {d = in-change 8} refl (whole !)))) (no-more !)) (λ u.
         use1 W (later (someI (λ (m : ℕ). (‵ ftrue ⊛ ‵ (u32 .own m (u ∷ []))) ⊛ raw (ensured 𝓤 H A told-word.ended (told-word.clauses 𝓤 H A at-mem run) tt (c .word, tt) tt m)))) (id⊢ 𝓤 _) $ await ! tt $ pick ! (λ m.

@@ -1,7 +1,7 @@
 -- An accepted paper: the checker's answer stands for the list of its first jobs,
 -- so that list is the plain answer's, and its jobs are few and passed.
 use mathlib.Core.Path.{_≡_, ap, sym, _∙_}
-use mathlib.Core.List.{List, [], map}
+use mathlib.Core.List.{List, []}
 use Prim.Native.Nat.{ℕ, _≤_, _<_}
 use native.Mathlib.Omega.{arith}
 use lib.ListN.{length, getD, length-map, List·getD-map}
@@ -9,20 +9,29 @@ use Rattle.theory.specs.Lists.{firsts, length-firsts, getD-firsts}
 use Rattle.machine.specs.Paper.{jobs, paperAnswer}
 use Rattle.machine.specs.View.{codeOf, noJob, answerOf, Answers}
 use Rattle.machine.specs.declared.instruction.Instruction.{Instruction}
+use Rattle.machine.specs.declared.job.Job.{Job}
 use Rattle.machine.specs.declared.paper.Checked.{Checked}
 use Rattle.machine.specs.declared.paper.Verdict.{Verdict}
 use Rattle.machine.specs.declared.paper.Verdict.the-variants.{Accepted}
 use Rattle.promise.specs.Papers.{accepted-jobs}
+use Rattle.turns.specs.Program.{firstJobs}
 use Rattle.turns.specs.Alone.{AllPass}
 
+module _ (n : ℕ) (js : List Job) where
+  pub first-long : length (firstJobs n js) ≡ n
+  first-long = length-map (firsts n noJob js) codeOf ∙ length-firsts n noJob js
+
+  pub first-job : (k : ℕ) → k < n → getD (firstJobs n js) k [] ≡ codeOf (getD js k noJob)
+  first-job k l = List·getD-map codeOf (firsts n noJob js) k noJob ∙ ap codeOf (getD-firsts n noJob js k l)
+
 abbrev pub jobsOf : Checked → List (List Instruction)
-jobsOf r = map codeOf (firsts (r .count) noJob (r .jobs))
+jobsOf r = firstJobs (r .count) (r .jobs)
 
 pub jobs-long : (r : Checked) → length (jobsOf r) ≡ r .count
-jobs-long r = length-map (firsts (r .count) noJob (r .jobs)) codeOf ∙ length-firsts (r .count) noJob (r .jobs)
+jobs-long r = first-long (r .count) (r .jobs)
 
 pub job-is : (r : Checked) (k : ℕ) → k < r .count → getD (jobsOf r) k [] ≡ codeOf (getD (r .jobs) k noJob)
-job-is r k l = List·getD-map codeOf (firsts (r .count) noJob (r .jobs)) k noJob ∙ ap codeOf (getD-firsts (r .count) noJob (r .jobs) k l)
+job-is r = first-job (r .count) (r .jobs)
 
 module _ (paper : List ℕ) (r : Checked) (er : Answers r (paperAnswer paper)) (e : r .verdict ≡ Accepted) where
   pub accepted : jobs (jobsOf r) ≡ paperAnswer paper

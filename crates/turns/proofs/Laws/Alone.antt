@@ -28,7 +28,7 @@ use Rattle.machine.specs.declared.step.Stepped.{Stepped}
 use Rattle.machine.specs.declared.step.Act.{Act as CodeAct}
 use Rattle.machine.specs.declared.step.Act.the-variants.{Nothing, Read, Write, Stop, Abandon, Stuck}
 use Rattle.turns.specs.Box.{box, boxChecked, box-promise}
-use Rattle.turns.specs.View.{entryOf, entriesOf, journalOf, length-journal, placeOf}
+use Rattle.turns.specs.View.{entryOf, entriesOf, journalOf, length-journal, foundOf}
 use Rattle.turns.specs.Block.{runningOf}
 use Rattle.turns.specs.SerialRun.{cellsOf}
 use Rattle.turns.specs.Alone.{StepsIn, Leaves, Runs, Goes, GoesOn, Begins, toGo, Passes}
@@ -45,13 +45,13 @@ unfolding entriesOf
 entries-none es = refl
 
 -- ---- what a job alone reads
-module _ (j : Journal) (c : ℕ) (r : Found) (er : placeOf r ≡ lastAt (journalOf j) c) where
+module _ (j : Journal) (c : ℕ) (r : Found) (er : foundOf r ≡ lastAt (journalOf j) c) where
   pub read-own : (table : List ℕ) (p : ℕ) (e : Entry) → r ≡ At p → entryOf e ≡ getD (journalOf j) p E.noEntry → e .value ≡ over (journalOf j) (cellsOf table) c
-  unfolding placeOf
+  unfolding foundOf
   read-own table p e q w = rw (← er, q, ← w) refl
 
   pub read-table : (table : List ℕ) → r ≡ Nowhere → getD table c 0 ≡ over (journalOf j) (cellsOf table) c
-  unfolding placeOf
+  unfolding foundOf
   read-table table q = rw (← er, q) refl
 
 pub ruleset read-laws = (own-low, read-own, read-table)

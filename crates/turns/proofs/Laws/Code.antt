@@ -14,6 +14,7 @@ use lib.Seq.{ext-getD, getD-set-same, getD-set-other}
 use borrow.Author.Tests.{lt-ltb, le-ltb, le-leb, lt-leb, ne-eqb}
 use Rattle.theory.specs.Lists.{tab, getD-tab}
 use Rattle.machine.specs.Instruction.{DUP, SWAP, JUMP, known, fits}
+use Rattle.turns.proofs.Laws.Filled.{Filling, fill-start, fill-on, fill-end}
 use Rattle.turns.specs.Sizes.{instructionWithin, byCode, keepsAt, bytesWithin}
 use Rattle.turns.proofs.Laws.Tests.{Tests, tests-on}
 
@@ -87,23 +88,18 @@ keeps-law n next c a least limit within free r l el em ew ef er =
 
 -- ---- the next places
 pub record Nexts (xs : List ℕ) (k : ℕ) : Type 0 where
-  pub long : length xs ≡ 64
+  pub filling : Filling 0 suc 64 k xs
   pub low : k ≤ 64
-  pub below : (i : ℕ) → i < k → getD xs i 0 ≡ suc i
 
 pub next-start : Nexts (replicate 64 0) 0
-next-start = record { long = refl; low = omega arith; below = λ i l. absurd (omega arith) }
+next-start = record { filling = fill-start 0 suc 64; low = omega arith }
 
 module _ (xs : List ℕ) (k : ℕ) (g : Nexts xs k) where
   pub next-on : k < 64 → Nexts (set xs k (k + 1)) (k + 1)
-  next-on l = record { long = length-set xs k (k + 1) ∙ g .long; low = omega (arith, l); below = λ i m. go i (ℕ-discrete i k) (omega (arith, m)) }
-    where
-      go : (i : ℕ) → Dec (i ≡ k) → i ≤ k → getD (set xs k (k + 1)) i 0 ≡ suc i
-      go i (yes q) m = rw q (getD-set-same xs k (k + 1) 0 (omega (arith, l, g .long)) ∙ add-one k)
-      go i (no q) m = getD-set-other xs k i (k + 1) 0 q ∙ g .below i (omega (arith, m, q))
+  next-on l = record { filling = fill-on 0 suc 64 k xs (g .filling) l (k + 1) (add-one k); low = omega (arith, l) }
 
   pub next-end : 64 ≤ k → xs ≡ tab 64 suc
-  next-end l = ext-getD 0 xs (tab 64 suc) (g .long) (λ i m. let n : i < 64 = rw (g .long) at m in g .below i (omega (arith, n, l)) ∙ sym (getD-tab 64 suc i 0 n))
+  next-end l = fill-end 0 suc 64 k xs (g .filling) (λ i m n. absurd (omega arith))
 
 -- the byte at a place of the next places
 next-at : (ps : List ℕ) (k : ℕ) → ps ≡ tab 64 suc → k < 64 → getD ps k 0 ≡ suc k

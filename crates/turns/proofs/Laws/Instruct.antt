@@ -27,7 +27,7 @@ use Rattle.turns.specs.declared.block.Entry.{Entry}
 use Rattle.turns.specs.declared.block.Journal.{Journal}
 use Rattle.turns.specs.declared.block.Versions.{Versions}
 use Rattle.turns.specs.declared.block.Block.{Block}
-use Rattle.turns.specs.declared.turn.Word.the-variants.{Step, End, Stuck}
+use Rattle.turns.specs.declared.word.Word.the-variants.{Step, End, Stuck}
 use Rattle.turns.specs.declared.turn.Turned.{Turned}
 use Rattle.turns.proofs.Laws.Versions.{length-versions}
 use Rattle.turns.proofs.Laws.Moves.{version-at}
@@ -46,7 +46,7 @@ lasts-few k (e ∷ es) = go (E.writes? es (e .cell)) (lasts-few (suc k) es)
 
 pub stop-showing : (b : Block) (t : ℕ) (new : Versions) → Whole b → 0 < t → t ≤ b .count → versionsOf new ≡ published (journalOf (getD (b .journals) (t - 1) noJournal))
     → Showing (getD (b .journals) (t - 1) noJournal) new
-stop-showing b t new w p l e = record { entries = few; places = low; named = λ k h. rw (version-at new k low h) (named k h) }
+stop-showing b t new w p l e = record { entries = few; numbers = low; named = λ k h. rw (version-at new k low h) (named k h) }
   where
     j : Journal
     j = getD (b .journals) (t - 1) noJournal
@@ -61,7 +61,7 @@ stop-showing b t new w p l e = record { entries = few; places = low; named = λ 
     named k h = every-at (λ x. x < j .size) (versionsOf new) k 0 (rw (length-versions new) h) (rw e (subst (λ (n : ℕ). Below n (published (journalOf j))) (length-journal j) (published-below (journalOf j))))
 
 pub abandon-showing : (b : Block) (t : ℕ) (new : Versions) → Whole b → 0 < t → t ≤ b .count → versionsOf new ≡ [] → Showing (getD (b .journals) (t - 1) noJournal) new
-abandon-showing b t new w p l e = record { entries = few-entries b t (w .sized) p l; places = omega (arith, none); named = λ k h. absurd (omega (arith, none)) }
+abandon-showing b t new w p l e = record { entries = few-entries b t (w .sized) p l; numbers = omega (arith, none); named = λ k h. absurd (omega (arith, none)) }
   where
     none : new .size ≡ 0
     none = sym (length-versions new) ∙ ap length e

@@ -13,7 +13,7 @@ use borrow.Author.Tests.{eq-eqb, ne-eqb}
 use Rattle.theory.specs.Lists.{tab, length-tab, getD-tab, tab-same}
 use Rattle.theory.specs.Engine as E
 use Rattle.theory.specs.Engine.{lastAt, orElse, next}
-use Rattle.turns.specs.View.{noEntry, entryOf, entriesOf, journalOf, placeOf}
+use Rattle.turns.specs.View.{noEntry, entryOf, entriesOf, journalOf, foundOf}
 use Rattle.turns.specs.declared.block.Entry.{Entry}
 use Rattle.turns.specs.declared.block.Journal.{Journal}
 use Rattle.turns.specs.declared.journal.Found.the-variants.{At, Nowhere}
@@ -32,8 +32,8 @@ module _ (j : Journal) (c : ℕ) (R : Option ℕ) where
   pub last-start : lastAt (entriesOf (j .size) j) c ≡ lastAt (journalOf j) c
   last-start = refl
 
-  pub last-here : (k : ℕ) → 0 < k → getD (j .entries) (k - 1) noEntry .cell .0 ≡ c → lastAt (entriesOf k j) c ≡ R → placeOf (At (k - 1)) ≡ R
-  unfolding entriesOf placeOf
+  pub last-here : (k : ℕ) → 0 < k → getD (j .entries) (k - 1) noEntry .cell .0 ≡ c → lastAt (entriesOf k j) c ≡ R → foundOf (At (k - 1)) ≡ R
+  unfolding entriesOf foundOf
   last-here zero l e q = absurd (omega arith)
   last-here (suc k) l e q =
       let s : suc k - 1 ≡ k = omega arith in
@@ -48,8 +48,8 @@ module _ (j : Journal) (c : ℕ) (R : Option ℕ) where
       rw s (sym (last-snoc (tab k (λ i. entryOf (getD (j .entries) i noEntry))) (entryOf (getD (j .entries) k noEntry)) c
       ∙ rw (ne-eqb (getD (j .entries) k noEntry .cell .0) c (rw s at e)) refl) ∙ q)
 
-  pub last-none : (k : ℕ) → k ≤ 0 → lastAt (entriesOf k j) c ≡ R → placeOf Nowhere ≡ R
-  unfolding entriesOf placeOf
+  pub last-none : (k : ℕ) → k ≤ 0 → lastAt (entriesOf k j) c ≡ R → foundOf Nowhere ≡ R
+  unfolding entriesOf foundOf
   last-none zero l q = q
   last-none (suc k) l q = absurd (omega arith)
 

@@ -12,7 +12,7 @@ use lib.ListN.{getD, set}
 use lib.Seq.{getD-set-other}
 use borrow.Author.Tests.{eq-eqb, ne-eqb, eqb-true, lt-ltb, le-ltb}
 use Rattle.theory.specs.Engine.{struck, earlier}
-use Rattle.turns.specs.View.{placeOf, markOf, markByte, noRead, noReads}
+use Rattle.turns.specs.View.{foundOf, markOf, markByte, noRead, noReads}
 use Rattle.turns.specs.Marks.{shownIn, struckBy, firstFrom, strikesAt, markBy, markReads, sweep, ListsFit}
 use Rattle.turns.specs.declared.block.Read.{Read}
 use Rattle.turns.specs.declared.block.Reads.{Reads}
@@ -21,30 +21,30 @@ use Rattle.turns.specs.declared.journal.Found.the-variants.{At, Nowhere}
 use Rattle.turns.specs.declared.marks.Shows.{Shows}
 
 module _ (o n : Found) (t s : ℕ) where
-  pub strike-neither : o ≡ Nowhere → n ≡ Nowhere → false ≡ struck (placeOf o) (placeOf n) t s
-  unfolding placeOf
+  pub strike-neither : o ≡ Nowhere → n ≡ Nowhere → false ≡ struck (foundOf o) (foundOf n) t s
+  unfolding foundOf
   strike-neither a b = rw (a, b) refl
 
-  pub strike-new : (y : ℕ) → o ≡ Nowhere → n ≡ At y → leb s t ≡ struck (placeOf o) (placeOf n) t s
-  unfolding placeOf
+  pub strike-new : (y : ℕ) → o ≡ Nowhere → n ≡ At y → leb s t ≡ struck (foundOf o) (foundOf n) t s
+  unfolding foundOf
   strike-new y a b = rw (a, b) refl
 
-  pub strike-gone : (x : ℕ) → o ≡ At x → n ≡ Nowhere → eqb s t ≡ struck (placeOf o) (placeOf n) t s
-  unfolding placeOf
+  pub strike-gone : (x : ℕ) → o ≡ At x → n ≡ Nowhere → eqb s t ≡ struck (foundOf o) (foundOf n) t s
+  unfolding foundOf
   strike-gone x a b = rw (a, b) refl
 
-  pub strike-same : (x y : ℕ) → o ≡ At x → n ≡ At y → x ≡ y → false ≡ struck (placeOf o) (placeOf n) t s
-  unfolding placeOf
+  pub strike-same : (x y : ℕ) → o ≡ At x → n ≡ At y → x ≡ y → false ≡ struck (foundOf o) (foundOf n) t s
+  unfolding foundOf
   strike-same x y a b e = rw (a, b, eq-eqb x y e) refl
 
-  pub strike-other : (x y : ℕ) → o ≡ At x → n ≡ At y → (x ≡ y → ⊥) → leb s t ≡ struck (placeOf o) (placeOf n) t s
-  unfolding placeOf
+  pub strike-other : (x y : ℕ) → o ≡ At x → n ≡ At y → (x ≡ y → ⊥) → leb s t ≡ struck (foundOf o) (foundOf n) t s
+  unfolding foundOf
   strike-other x y a b e = rw (a, b, ne-eqb x y e) refl
 
 pub ruleset strike-laws = (strike-neither, strike-new, strike-gone, strike-same, strike-other)
 
-pub struck-is : (r : Read) (old new : Shows) (t : ℕ) (o n : Found) (x : Bool) → placeOf o ≡ shownIn old (r .cell .0) → placeOf n ≡ shownIn new (r .cell .0)
-    → x ≡ struck (placeOf o) (placeOf n) t (r .source .0) → x ≡ struckBy old new t r
+pub struck-is : (r : Read) (old new : Shows) (t : ℕ) (o n : Found) (x : Bool) → foundOf o ≡ shownIn old (r .cell .0) → foundOf n ≡ shownIn new (r .cell .0)
+    → x ≡ struck (foundOf o) (foundOf n) t (r .source .0) → x ≡ struckBy old new t r
 unfolding struckBy
 struck-is r old new t o n x eo en e = rw (← eo, ← en) e
 

@@ -20,7 +20,7 @@ use Rattle.machine.specs.Machine.{Running}
 use Rattle.machine.specs.declared.counts.Ticket.{Ticket}
 use Rattle.machine.specs.declared.instruction.Instruction.{Instruction}
 use Rattle.machine.specs.declared.job.State.{State}
-use Rattle.turns.specs.View.{entryOf, entriesOf, journalOf, length-journal, placeAt, place-low, versionsOf, markOf, markByte, noJournal, noVersions, noRead, noReads, Showing}
+use Rattle.turns.specs.View.{entryOf, entriesOf, journalOf, length-journal, numberAt, number-low, versionsOf, markOf, markByte, noJournal, noVersions, noRead, noReads, Showing}
 use Rattle.turns.specs.Block.{codeAt, noState, noCheckpoint, runningOf, checkpointOf, readOf, readsOf, jobOf}
 use Rattle.turns.specs.Marks.{shownIn, struckBy, firstFrom, strikesAt, markBy, markReads, sweep}
 use Rattle.turns.specs.Becomes.{Becomes, quiet}
@@ -81,7 +81,7 @@ every-tab P (suc n) f h = every-snoc (tab n f) (f n) (every-tab P n f (λ k l. h
 
 pub showing-below : (j : Journal) (v : Versions) → Showing j v → Below (length (journalOf j)) (versionsOf v)
 unfolding versionsOf
-showing-below j v s = every-tab (λ x. x < length (journalOf j)) (v .size) (placeAt v) (λ k l. rw (length-journal j, ← place-low v k (omega (arith, s .places))) (s .named k l))
+showing-below j v s = every-tab (λ x. x < length (journalOf j)) (v .size) (numberAt v) (λ k l. rw (length-journal j, ← number-low v k (omega (arith, s .numbers))) (s .named k l))
 
 pub write-is : (b : Block) (i : ℕ) (s : State) (e : Entry) (j : Journal) → i < b .count → Sized b → length (b .states) ≡ 16 → length (b .journals) ≡ 16
     → journalOf j ≡ journalOf (getD (b .journals) i noJournal) ++ (entryOf e ∷ [])
@@ -321,17 +321,17 @@ withdrawn-length n (v ∷ vs) = go (ltb v n) (withdrawn-length n vs)
     go true h = omega arith
     go false h = omega arith
 
-pub version-at : (w : Versions) (k : ℕ) → w .size ≤ 8 → k < w .size → getD (w .places) k 0 ≡ getD (versionsOf w) k 0
+pub version-at : (w : Versions) (k : ℕ) → w .size ≤ 8 → k < w .size → getD (w .numbers) k 0 ≡ getD (versionsOf w) k 0
 unfolding versionsOf
-version-at w k few h = place-low w k (omega arith) ∙ sym (getD-tab (w .size) (placeAt w) k 0 h)
+version-at w k few h = number-low w k (omega arith) ∙ sym (getD-tab (w .size) (numberAt w) k 0 h)
 
 -- what is left of the versions after going back names entries that are left
 back-showing : (j : Journal) (v w : Versions) (n : ℕ) → Showing j v → n ≤ j .size → versionsOf w ≡ withdrawn n (versionsOf v) → Showing (record { entries = j .entries; size = n }) w
 back-showing j v w n s l e =
-    let few : w .size ≤ 8 = omega (arith, ap length e, withdrawn-length n (versionsOf v), length-versions v, length-versions w, s .places) in
+    let few : w .size ≤ 8 = omega (arith, ap length e, withdrawn-length n (versionsOf v), length-versions v, length-versions w, s .numbers) in
     record {
       entries = omega (arith, s .entries);
-      places = few;
+      numbers = few;
       named = λ k h. rw (version-at w k few h) (every-at (λ x. x < n) (versionsOf w) k 0 (rw (length-versions w) h) (rw e (withdrawn-below n (versionsOf v))));
     }
 

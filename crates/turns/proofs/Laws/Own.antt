@@ -13,7 +13,7 @@ use lib.ListN.{length, getD}
 use borrow.Author.Tests.{eq-eqb, ne-eqb, le-leb, lt-leb}
 use Rattle.theory.specs.Engine as E
 use Rattle.theory.specs.Engine.{lastAt, lastValue, orElse, next}
-use Rattle.turns.specs.View.{entryOf, journalOf, length-journal, placeOf, valueOf, noRead}
+use Rattle.turns.specs.View.{entryOf, journalOf, length-journal, foundOf, valueOf, noRead}
 use Rattle.turns.specs.Turn.{listedFrom, finalBelow}
 use Rattle.turns.specs.declared.block.Entry.{Entry}
 use Rattle.turns.specs.declared.block.Journal.{Journal}
@@ -65,17 +65,17 @@ last-low (x ∷ es) c p e = go (lastAt es c) refl (eqb (x .cell) c) e (last-low 
     go none q true e ih = let w : 0 ≡ p = cc in omega arith
     go none q false e ih = let z : _≡_ {A = ℕ} 0 1 = cc in absurd (omega arith)
 
-module _ (j : Journal) (c : ℕ) (f : Found) (ef : placeOf f ≡ lastAt (journalOf j) c) where
+module _ (j : Journal) (c : ℕ) (f : Found) (ef : foundOf f ≡ lastAt (journalOf j) c) where
   pub own-low : (p : ℕ) → f ≡ At p → p < j .size
-  unfolding placeOf
-  own-low p q = omega (arith, last-low (journalOf j) c p (sym ef ∙ ap placeOf q), length-journal j)
+  unfolding foundOf
+  own-low p q = omega (arith, last-low (journalOf j) c p (sym ef ∙ ap foundOf q), length-journal j)
 
   pub own-entry : (p : ℕ) (e : Entry) (o : Option ℕ) → f ≡ At p → entryOf e ≡ getD (journalOf j) p E.noEntry → valueOf (Value (e .value)) ≡ orElse (lastValue (journalOf j) c) o
-  unfolding placeOf valueOf
+  unfolding foundOf valueOf
   own-entry p e o q w = rw (← ef, q, ← w) refl
 
   pub own-listed : (x : Shown) (o : Option ℕ) → f ≡ Nowhere → valueOf x ≡ o → valueOf x ≡ orElse (lastValue (journalOf j) c) o
-  unfolding placeOf
+  unfolding foundOf
   own-listed x o q w = rw (← ef, q) w
 
 pub ruleset own-laws = (own-low, own-entry, own-listed)

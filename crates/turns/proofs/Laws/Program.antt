@@ -1,18 +1,17 @@
--- A job that passed keeps to 5 and 6, so but for PUSH its operands fit a byte; a program to which its instructions are written,
--- place by place, stands for them, and its step is theirs.
+-- A job that passed keeps to 5 and 6, so but for PUSH its operands fit a byte; a program to which its instructions are written
+-- one by one is the packed one, stands for them, and its step is theirs.
 use mathlib.Core.Path.{_≡_, refl, ap, sym, _∙_}
 use mathlib.Core.Bool.{Bool, true, false, cond, _&&_, _||_}
-use mathlib.Core.List.{List}
+use mathlib.Core.List.{List, []}
 use Prim.Native.Nat.{ℕ, zero, suc, _+_, _≤_, _<_}
 use native.Mathlib.Omega.{arith}
 use native.Mathlib.Decide.{ℕ-discrete}
 use lib.Dec.{eqb, leb, ltb}
-use lib.ListN.{length, getD, set, length-set}
-use lib.Seq.{ext-getD, getD-set-same, getD-set-other}
+use lib.ListN.{length, getD, set, replicate, List·getD-eq-default}
 use borrow.Author.Tests.{leb-true, ltb-true, lt-ltb, le-ltb, eq-eqb, ne-eqb}
-use Rattle.theory.specs.Lists.{firsts, length-firsts, getD-firsts, tab, length-tab, getD-tab, tab-same}
+use Rattle.theory.specs.Lists.{length-firsts, getD-firsts, tab, getD-tab, tab-same}
 use Rattle.theory.specs.ReadSizes.{both}
-use Rattle.machine.specs.Limits.{LONGEST, ROOM}
+use Rattle.machine.specs.Limits.{LONGEST, ROOM, JOBS}
 use Rattle.machine.specs.Instruction.{DUP, SWAP, JUMP}
 use Rattle.machine.specs.Machine.{stopping, starting, formed, sizes}
 use Rattle.machine.specs.View.{stateOf, codeOf, noJob, Steps}
@@ -21,10 +20,12 @@ use Rattle.machine.specs.declared.job.Job.{Job}
 use Rattle.machine.specs.declared.job.State.{State}
 use Rattle.machine.specs.declared.step.Stepped.{Stepped}
 use Rattle.turns.specs.Box.{boxChecked}
-use Rattle.turns.specs.Program.{noProgram, stopsOf, operandOf, instructionIn, programOf, length-program, program-at, AllPacked}
+use Rattle.turns.specs.Program.{stopsOf, argumentOf, pushedOf, packed, argumentByte, operandOf, instructionIn, programOf, length-program, program-at, firstJobs, allPacked}
 use Rattle.turns.specs.Alone.{StepsIn, Passes}
 use Rattle.turns.specs.Sizes.{instructionWithin, byCode, keepsAt}
 use Rattle.turns.specs.declared.block.Program.{Program}
+use Rattle.turns.proofs.Laws.Filled.{Filling, fill-start, fill-on, fill-end, tab-getD}
+use Rattle.turns.proofs.Laws.Accepted.{first-long, first-job}
 use Rattle.turns.proofs.Laws.Code.{bounds-are}
 
 -- ---- a byte holds an operand that is not PUSH's
@@ -47,21 +48,33 @@ module _ (n p c x : ℕ) (few : n ≤ 64) (within : instructionWithin n p (recor
       let b = both (leb (byCode c (suc p) 1 0) x) (ltb x (byCode c n 16 1)) (rw e at a) .1 in
       omega (arith, ltb-true x (byCode c n 16 1) b, limit-low c n few)
 
-  pub packed-operand : operandOf c (cond (ltb x 256) x 0) x ≡ x
-  packed-operand = go (eqb c 2) refl
+  pub packed-argument : argumentByte (record { code = c; operand = x }) ≡ argumentOf (record { code = c; operand = x })
+  packed-argument = go (eqb c 2) refl
     where
-      go : (t : Bool) → eqb c 2 ≡ t → cond t x (cond (ltb x 256) x 0) ≡ x
+      go : (t : Bool) → eqb c 2 ≡ t → cond t 0 (cond (ltb x 256) x 0) ≡ cond t 0 x
       go true e = refl
       go false e = rw (lt-ltb _ _ (small e)) refl
 
-module _ (x : ℕ) where
-  pub argument-small : x < 256 → x ≡ cond (ltb x 256) x 0
-  argument-small l = rw (lt-ltb _ _ l) refl
+module _ (i : Instruction) where
+  pub argument-push : i .code ≡ 2 → 0 ≡ argumentByte i
+  argument-push e = rw (eq-eqb _ _ e) refl
 
-  pub argument-large : 256 ≤ x → 0 ≡ cond (ltb x 256) x 0
-  argument-large l = rw (le-ltb _ _ l) refl
+  module _ (n : i .code ≡ 2 → ⊥) where
+    pub argument-small : i .operand < 256 → i .operand ≡ argumentByte i
+    argument-small l = rw (ne-eqb _ _ n, lt-ltb _ _ l) refl
 
-pub ruleset argument-laws = (argument-small, argument-large)
+    pub argument-large : 256 ≤ i .operand → 0 ≡ argumentByte i
+    argument-large l = rw (ne-eqb _ _ n, le-ltb _ _ l) refl
+
+    pub pushed-none : 0 ≡ pushedOf i
+    pushed-none = rw (ne-eqb _ _ n) refl
+
+  pub pushed-push : i .code ≡ 2 → i .operand ≡ pushedOf i
+  pushed-push e = rw (eq-eqb _ _ e) refl
+
+pub ruleset argument-laws = (argument-push, argument-small, argument-large)
+
+pub ruleset pushed-laws = (pushed-push, pushed-none)
 
 -- ---- a job that passed
 formed-each : (is : List Instruction) (n m : ℕ) → formed is n m ≡ true → (k : ℕ) → k < m → instructionWithin n k (getD is k stopping) ≡ true
@@ -95,77 +108,99 @@ module _ (job : Job) (pass : Passes job) where
   passed-within : (k : ℕ) → k < job .size → instructionWithin (job .size) k (getD (job .code) k stopping) ≡ true
   passed-within k l = rw (long, getD-firsts (job .size) stopping (job .code) k l) at (formed-each (codeOf job) many many (fit .1) k (omega (arith, l, long)))
 
--- ---- a program, place by place
+-- ---- a program, instruction by instruction
+abbrev at : Job → ℕ → Instruction
+at job k = getD (codeOf job) k stopping
+
 pub record Packing (job : Job) (p : Program) (k : ℕ) : Type 0 where
-  pub codes : length (p .codes) ≡ 64
-  pub arguments : length (p .arguments) ≡ 64
-  pub pushed : length (p .pushed) ≡ 64
+  pub codes : Filling 0 (λ i. at job i .code) LONGEST k (p .codes)
+  pub arguments : Filling 0 (λ i. argumentOf (at job i)) LONGEST k (p .arguments)
+  pub pushed : Filling 0 (λ i. pushedOf (at job i)) LONGEST k (p .pushed)
   pub size : p .size ≡ job .size
   pub low : k ≤ job .size
-  pub below : (i : ℕ) → i < k → instructionIn p i ≡ getD (job .code) i stopping
-
--- the first n entries are a list by its entries
-pub firsts-tab : {A : Type 0} (n : ℕ) (d : A) (xs : List A) → firsts n d xs ≡ tab n (λ k. getD xs k d)
-firsts-tab n d xs =
-    ext-getD d (firsts n d xs) (tab n (λ k. getD xs k d)) (length-firsts n d xs ∙ sym (length-tab n _))
-    (λ k l. let m : k < n = rw (length-firsts n d xs) at l in getD-firsts n d xs k m ∙ sym (getD-tab n (λ i. getD xs i d) k d m))
 
 module _ (job : Job) (pass : Passes job) where
   pub pack-start : (p : Program) → p ≡ stopsOf (job .size) → Packing job p 0
-  pack-start p e = rw e (record { codes = refl; arguments = refl; pushed = refl; size = refl; low = omega arith; below = λ i l. absurd (omega arith) })
+  pack-start p e = rw e (record { codes = fill-start 0 _ LONGEST; arguments = fill-start 0 _ LONGEST; pushed = fill-start 0 _ LONGEST; size = refl; low = omega arith })
 
   module _ (p : Program) (k : ℕ) (g : Packing job p k) where
-    pub pack-on : k < job .size → (a : ℕ) → a ≡ cond (ltb (getD (job .code) k stopping .operand) 256) (getD (job .code) k stopping .operand) 0
-        → Packing job (record { codes = set (p .codes) k (getD (job .code) k stopping .code); arguments = set (p .arguments) k a; pushed = set (p .pushed) k (getD (job .code) k stopping .operand); size = p .size }) (k + 1)
-    pack-on l a e = record {
-      codes = length-set (p .codes) k _ ∙ g .codes;
-      arguments = length-set (p .arguments) k _ ∙ g .arguments;
-      pushed = length-set (p .pushed) k _ ∙ g .pushed;
+    pub pack-on : k < job .size → (a q : ℕ) → a ≡ argumentByte (getD (job .code) k stopping) → q ≡ pushedOf (getD (job .code) k stopping)
+        → Packing job (record { codes = set (p .codes) k (getD (job .code) k stopping .code); arguments = set (p .arguments) k a; pushed = set (p .pushed) k q; size = p .size }) (k + 1)
+    pack-on l a q ea eq = record {
+      codes = fill-on 0 _ LONGEST k (p .codes) (g .codes) low _ (ap (λ (i : Instruction). i .code) same);
+      arguments = fill-on 0 _ LONGEST k (p .arguments) (g .arguments) low a (ea ∙ packed-argument (job .size) k _ _ (passed-few job pass) (passed-within job pass k l) ∙ ap argumentOf same);
+      pushed = fill-on 0 _ LONGEST k (p .pushed) (g .pushed) low q (eq ∙ ap pushedOf same);
       size = g .size;
       low = omega (arith, l);
-      below = λ i m. go i (ℕ-discrete i k) (omega (arith, m));
     }
       where
-        c : ℕ
-        c = getD (job .code) k stopping .code
-
-        x : ℕ
-        x = getD (job .code) k stopping .operand
-
-        low : k < 64
+        low : k < LONGEST
         low = omega (arith, l, passed-few job pass)
 
-        go : (i : ℕ) → Dec (i ≡ k) → i ≤ k
-            → record { code = getD (set (p .codes) k c) i 0; operand = operandOf (getD (set (p .codes) k c) i 0) (getD (set (p .arguments) k a) i 0) (getD (set (p .pushed) k x) i 0) } ≡ getD (job .code) i stopping
-        go i (yes q) m =
-            rw (q, getD-set-same (p .codes) k c 0 (omega (arith, low, g .codes)), getD-set-same (p .arguments) k a 0 (omega (arith, low, g .arguments)), getD-set-same (p .pushed) k x 0 (omega (arith, low, g .pushed)), e, packed-operand (job .size) k c x (passed-few job pass) (passed-within job pass k l)) refl
-        go i (no q) m =
-            rw (getD-set-other (p .codes) k i c 0 q, getD-set-other (p .arguments) k i a 0 q, getD-set-other (p .pushed) k i x 0 q) (g .below i (omega (arith, m, q)))
+        same : getD (job .code) k stopping ≡ at job k
+        same = sym (getD-firsts (job .size) stopping (job .code) k l)
 
-    pub pack-end : job .size ≤ k → programOf p ≡ codeOf job
-    unfolding programOf
-    pack-end l = rw (g .size) (tab-same (job .size) (instructionIn p) (λ i. getD (job .code) i stopping) (λ i m. g .below i (omega (arith, l, m))) ∙ sym (firsts-tab (job .size) stopping (job .code)))
+    pub pack-end : job .size ≤ k → p ≡ packed (codeOf job)
+    unfolding packed
+    pack-end l = λ z. record { codes = codes z; arguments = arguments z; pushed = pushed z; size = size z }
+      where
+        past : (i : ℕ) → k ≤ i → at job i ≡ stopping
+        past i m = List·getD-eq-default (codeOf job) stopping (omega (arith, l, m, long job pass))
+
+        codes : p .codes ≡ tab LONGEST (λ i. at job i .code)
+        codes = fill-end 0 _ LONGEST k (p .codes) (g .codes) (λ i m n. ap (λ (x : Instruction). x .code) (past i m))
+
+        arguments : p .arguments ≡ tab LONGEST (λ i. argumentOf (at job i))
+        arguments = fill-end 0 _ LONGEST k (p .arguments) (g .arguments) (λ i m n. ap argumentOf (past i m))
+
+        pushed : p .pushed ≡ tab LONGEST (λ i. pushedOf (at job i))
+        pushed = fill-end 0 _ LONGEST k (p .pushed) (g .pushed) (λ i m n. ap pushedOf (past i m))
+
+        size : p .size ≡ length (codeOf job)
+        size = g .size ∙ sym (long job pass)
+
+-- a program that an opening packed stands for its job's instructions
+pub packed-stands : (is : List Instruction) → length is ≤ LONGEST → programOf (packed is) ≡ is
+unfolding packed programOf
+packed-stands is few = tab-same (length is) _ (λ k. getD is k stopping) (λ k l. one k (omega (arith, l, few))) ∙ tab-getD stopping is
+  where
+    operand-is : (i : Instruction) → operandOf (i .code) (argumentOf i) (pushedOf i) ≡ i .operand
+    operand-is i = go (eqb (i .code) 2)
+      where
+        go : (x : Bool) → cond x (cond x (i .operand) 0) (cond x 0 (i .operand)) ≡ i .operand
+        go true = refl
+        go false = refl
+
+    one : (k : ℕ) → k < LONGEST → instructionIn (record { codes = tab LONGEST (λ i. getD is i stopping .code); arguments = tab LONGEST (λ i. argumentOf (getD is i stopping)); pushed = tab LONGEST (λ i. pushedOf (getD is i stopping)); size = length is }) k ≡ getD is k stopping
+    one k l =
+        rw (getD-tab LONGEST (λ i. getD is i stopping .code) k 0 l, getD-tab LONGEST (λ i. argumentOf (getD is i stopping)) k 0 l, getD-tab LONGEST (λ i. pushedOf (getD is i stopping)) k 0 l)
+        (λ z. record { code = getD is k stopping .code; operand = operand-is (getD is k stopping) z })
 
 -- ---- the jobs, one by one
+packed-none : packed [] ≡ stopsOf 0
+unfolding packed
+packed-none = refl
+
+-- the program of the k-th job
+abbrev packedAt : List Job → ℕ → ℕ → Program
+packedAt js n k = packed (getD (firstJobs n js) k [])
+
 pub record PackingAll (js : List Job) (n k : ℕ) (ps : List Program) : Type 0 where
-  pub long : length ps ≡ 16
+  pub filling : Filling (stopsOf 0) (packedAt js n) JOBS k ps
   pub low : k ≤ n
-  pub packed : AllPacked js k ps
 
 module _ (js : List Job) (n : ℕ) where
-  pub packs-start : (ps : List Program) → length ps ≡ 16 → PackingAll js n 0 ps
-  packs-start ps l = record { long = l; low = omega arith; packed = record { same = λ k m. absurd (omega arith) } }
+  pub packs-start : (p : Program) → p ≡ stopsOf 0 → PackingAll js n 0 (replicate JOBS p)
+  packs-start p e = rw e (record { filling = fill-start (stopsOf 0) (packedAt js n) JOBS; low = omega arith })
 
-  module _ (few : n ≤ 16) (k : ℕ) (ps : List Program) (g : PackingAll js n k ps) where
-    pub packs-on : k < n → (p : Program) → programOf p ≡ codeOf (getD js k noJob) → PackingAll js n (k + 1) (set ps k p)
-    packs-on l p e = record { long = length-set ps k p ∙ g .long; low = omega (arith, l); packed = record { same = λ i m. go i (ℕ-discrete i k) (omega (arith, m)) } }
-      where
-        go : (i : ℕ) → Dec (i ≡ k) → i ≤ k → programOf (getD (set ps k p) i noProgram) ≡ codeOf (getD js i noJob)
-        go i (yes q) m = rw (q, getD-set-same ps k p noProgram (omega (arith, l, few, g .long))) e
-        go i (no q) m = rw (getD-set-other ps k i p noProgram q) (g .packed .same i (omega (arith, m, q)))
+  module _ (few : n ≤ JOBS) (k : ℕ) (ps : List Program) (g : PackingAll js n k ps) where
+    pub packs-on : k < n → (p : Program) → p ≡ packed (codeOf (getD js k noJob)) → PackingAll js n (k + 1) (set ps k p)
+    packs-on l p e = record { filling = fill-on (stopsOf 0) (packedAt js n) JOBS k ps (g .filling) (omega arith) p (e ∙ ap packed (sym (first-job n js k l))); low = omega (arith, l) }
 
-    pub packs-end : n ≤ k → AllPacked js n ps
-    packs-end l = record { same = λ i m. g .packed .same i (omega (arith, l, m)) }
+    pub packs-end : n ≤ k → ps ≡ allPacked (firstJobs n js)
+    unfolding allPacked
+    packs-end l = fill-end (stopsOf 0) (packedAt js n) JOBS k ps (g .filling)
+        (λ i m o. ap packed (List·getD-eq-default (firstJobs n js) [] (omega (arith, l, m, first-long n js))) ∙ packed-none)
 
 -- ---- the instruction at which a program stands
 -- an operand stands where its code says

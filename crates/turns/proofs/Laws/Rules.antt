@@ -18,10 +18,10 @@ use Rattle.turns.specs.View.{markOf, noReads}
 use Rattle.turns.specs.Block.{codeAt, noCheckpoint, checkpointOf, readsOf, statusOf, jobOf}
 use Rattle.turns.specs.Becomes.{Becomes}
 use Rattle.turns.specs.Moves.{Held}
-use Rattle.turns.specs.Turn.{finalBelow, jobs, cells, returning, stepping, moving, Did, Marked, Whole}
+use Rattle.turns.specs.Turn.{wordOf, leaves, finalBelow, jobs, cells, returning, stepping, moving, Did, Marked, Whole}
 use Rattle.turns.specs.declared.block.Read.{Read}
 use Rattle.turns.specs.declared.block.Block.{Block}
-use Rattle.turns.specs.declared.turn.Word.the-variants.{Idle, Back, Final, Wait}
+use Rattle.turns.specs.declared.word.Word.the-variants.{Idle, Back, Final, Wait}
 use Rattle.turns.specs.declared.turn.Turned.{Turned}
 use Rattle.turns.proofs.Laws.Words.{back-did, final-did, idle-did, wait-did}
 use Rattle.turns.proofs.Laws.Reading.{job-at}
@@ -74,6 +74,11 @@ module _ (b : Block) (i : ℕ) where
       go zero l = absurd (omega arith)
       go (suc zero) l = absurd (omega arith)
       go (suc (suc n)) l = refl
+
+  -- a final job's turn leaves the block
+  pub idle-leaves : 2 ≤ status → leaves (moving b i .word) ≡ true
+  unfolding wordOf leaves
+  idle-leaves l = ap leaves (sym (move-idle l .word))
 
   pub return-is : (r : Block) → i < b .count → Marked b i → Becomes b r i (goBack (jobOf b i) (checkpointOf (codeAt b i) (getD (b .checkpoints) (8 * i + mark) noCheckpoint)))
       → Did b i (returning b i) (record { word = Back; block = r })

@@ -79,11 +79,11 @@ count-fits f x s k n q l m h = omega (arith, one-few s)
 pub ruleset count-laws = (count-fits, count-start, count-on, count-next, count-end)
 
 -- ---- what one job shows, over a table
-pub shows-named : (j : Journal) (v : Versions) (k : ℕ) → Showing j v → 0 < k → k ≤ v .size → getD (v .places) (k - 1) 0 < j .size
+pub shows-named : (j : Journal) (v : Versions) (k : ℕ) → Showing j v → 0 < k → k ≤ v .size → getD (v .numbers) (k - 1) 0 < j .size
 shows-named j v k s p l = s .named (k - 1) (omega arith)
 
 pub shows-few : (j : Journal) (v : Versions) → Showing j v → (j .size ≤ 8) × (v .size ≤ 8)
-shows-few j v s = (s .entries, s .places)
+shows-few j v s = (s .entries, s .numbers)
 
 module _ (j : Journal) (v : Versions) (before table : List ℕ) (k : ℕ) where
   -- the versions from the k-th on are over the table
@@ -91,24 +91,24 @@ module _ (j : Journal) (v : Versions) (before table : List ℕ) (k : ℕ) where
   Shown-from = cellsOf table ≡ shownOver j (drop k (versionsOf v)) (cellsOf before)
 
   module _ (s : Showing j v) (inside : InTable j) (size : length table ≡ 256) (h : Shown-from) (p : 0 < k) (l : k ≤ v .size) (e : Entry)
-      (ee : entryOf e ≡ getD (journalOf j) (getD (v .places) (k - 1) 0) E.noEntry) where
-    named : getD (v .places) (k - 1) 0 < j .size
+      (ee : entryOf e ≡ getD (journalOf j) (getD (v .numbers) (k - 1) 0) E.noEntry) where
+    named : getD (v .numbers) (k - 1) 0 < j .size
     named = shows-named j v k s p l
 
     pub shows-cell : e .cell .0 < length table
     unfolding entriesOf
     shows-cell =
-        let w : e .cell .0 ≡ getD (j .entries) (getD (v .places) (k - 1) 0) noEntry .cell .0 = ap (λ (x : E.Entry). x .cell) (ee ∙ getD-tab (j .size) _ (getD (v .places) (k - 1) 0) E.noEntry named) in
-        omega (arith, inside .cells (getD (v .places) (k - 1) 0) named)
+        let w : e .cell .0 ≡ getD (j .entries) (getD (v .numbers) (k - 1) 0) noEntry .cell .0 = ap (λ (x : E.Entry). x .cell) (ee ∙ getD-tab (j .size) _ (getD (v .numbers) (k - 1) 0) E.noEntry named) in
+        omega (arith, inside .cells (getD (v .numbers) (k - 1) 0) named)
 
     pub shows-on : cellsOf (set table (e .cell .0) (e .value)) ≡ shownOver j (drop (k - 1) (versionsOf v)) (cellsOf before)
     shows-on = fun-ext (λ c. rw (cut-at, ← ee) (at c (ℕ-discrete c (e .cell .0))))
       where
-        cut-at : drop (k - 1) (versionsOf v) ≡ getD (v .places) (k - 1) 0 ∷ drop k (versionsOf v)
-        cut-at = let w : suc (k - 1) ≡ k = omega arith in cut v (k - 1) (s .places) (omega arith) ∙ rw w refl
+        cut-at : drop (k - 1) (versionsOf v) ≡ getD (v .numbers) (k - 1) 0 ∷ drop k (versionsOf v)
+        cut-at = let w : suc (k - 1) ≡ k = omega arith in cut v (k - 1) (s .numbers) (omega arith) ∙ rw w refl
 
         at : (c : ℕ) → Dec (c ≡ e .cell .0) → getD (set table (e .cell .0) (e .value)) c 0
-            ≡ Option·getD (E.valueAt (journalOf j) (cond (eqb (e .cell .0) c) (some (getD (v .places) (k - 1) 0)) (E.shownAt (journalOf j) (drop k (versionsOf v)) c))) (getD before c 0)
+            ≡ Option·getD (E.valueAt (journalOf j) (cond (eqb (e .cell .0) c) (some (getD (v .numbers) (k - 1) 0)) (E.shownAt (journalOf j) (drop k (versionsOf v)) c))) (getD before c 0)
         at c (yes q) = rw (eq-eqb (e .cell .0) c (sym q), ← ee) (rw q (getD-set-same table (e .cell .0) (e .value) 0 shows-cell))
         at c (no q) = rw (ne-eqb (e .cell .0) c (λ z. q (sym z))) (getD-set-other table (e .cell .0) c (e .value) 0 q ∙ (λ i. h i c))
 

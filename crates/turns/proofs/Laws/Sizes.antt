@@ -13,7 +13,7 @@ use Rattle.theory.specs.Engine.{blockFits}
 use Rattle.machine.specs.Limits.{JOBS}
 use Rattle.machine.specs.declared.job.State.{State}
 use Rattle.turns.specs.Program.{noProgram}
-use Rattle.turns.specs.View.{placeAt, place-low, place-past, markOf, noJournal, noVersions, noRead, noReads}
+use Rattle.turns.specs.View.{numberAt, number-low, number-past, markOf, noJournal, noVersions, noRead, noReads}
 use Rattle.turns.specs.Block.{noState, noCheckpoint, blockOf}
 use Rattle.turns.specs.Box.{limits, box}
 use Rattle.turns.specs.Sizes.{passes, codeWithin, bytesWithin, keptOf, standsIn, entryWithin, entryWithinAt, journalWithin, versionWithinAt, versionsWithin, readWithin, risesFrom, readsWithin, markWithin, jobWithin, jobWithinAt, listed, bytes-are, block-is}
@@ -56,14 +56,14 @@ module _ (j : Journal) where
 
 pub ruleset journal-laws = (failed, held, journal-long, journal-start, passes-stop, passes-on, passes-end)
 
-pub ruleset place-laws = (place-low, place-past)
+pub ruleset place-laws = (number-low, number-past)
 
 module _ (n : ℕ) (v : Versions) where
   pub versions-start : passes (versionWithinAt n v) 0 (v .size - 0) ≡ versionsWithin n v
   unfolding versionsWithin
   versions-start = rw sub-zero refl
 
-  module _ (k p : ℕ) (q : passes (versionWithinAt n v) k (v .size - k) ≡ versionsWithin n v) (l : k < v .size) (e : p ≡ placeAt v k) where
+  module _ (k p : ℕ) (q : passes (versionWithinAt n v) k (v .size - k) ≡ versionsWithin n v) (l : k < v .size) (e : p ≡ numberAt v k) where
     pub versions-stop : n ≤ p → false ≡ versionsWithin n v
     versions-stop m = passes-stop (versionWithinAt n v) (v .size) k (versionsWithin n v) q l (le-ltb _ _ (rw e at m))
 

@@ -2,6 +2,7 @@
 -- the block fits, what is stored is the block of the plain turn.
 use mathlib.Core.Path.{_≡_, refl, ap, sym, subst, _∙_}
 use mathlib.Core.Bool.{Bool, true, false, not, cond, _||_}
+use mathlib.Core.Logic.{_⊎_, inl, inr}
 use mathlib.Core.List.{List}
 use Prim.Native.Nat.{ℕ, zero, suc, _+_, _-_, _*_, _≤_, _<_}
 use native.Mathlib.Omega.{arith}
@@ -22,7 +23,7 @@ use Rattle.turns.specs.Block.{codeAt, noState, noCheckpoint, blockOf}
 use Rattle.turns.specs.Alone.{StepsIn}
 use Rattle.turns.specs.Marks.{Shown, markReads, sweep, ListsFit}
 use Rattle.turns.specs.Fitting.{count-fit}
-use Rattle.turns.specs.Turn.{moving, foreign, refusing, Did, Turns, Whole}
+use Rattle.turns.specs.Turn.{moving, foreign, refusing, Did, Keeps, Turns, Whole}
 use Rattle.turns.specs.Own.{still, slotAt, partsAt, ownOf, showsOf, markedBy, placed, storedAt, Long, Done, Moves, aroundOf, AtTurn, Asks, Ready, StepsIf, MovesIf, MayMark}
 use Rattle.turns.specs.Change.{changeBy, Changes}
 use Rattle.turns.specs.declared.block.Program.{Program}
@@ -33,11 +34,12 @@ use Rattle.turns.specs.declared.own.Own.{Own}
 use Rattle.turns.specs.declared.own.Around.{Around}
 use Rattle.turns.specs.declared.own.Move.{Move}
 use Rattle.turns.specs.declared.turn.Change.{Change}
-use Rattle.turns.specs.declared.turn.Word.{Word}
-use Rattle.turns.specs.declared.turn.Word.the-variants.{BadTicket, Stuck}
+use Rattle.turns.specs.declared.word.Word.{Word}
+use Rattle.turns.specs.declared.word.Word.the-variants.{BadTicket, Stuck}
 use Rattle.turns.proofs.Laws.Alone.{not-both}
 use Rattle.turns.proofs.Laws.Words.{inside-of}
 use Rattle.turns.proofs.Laws.Reading.{below-showing}
+use Rattle.turns.proofs.Laws.Rules.{idle-leaves}
 use Rattle.turns.proofs.Laws.Turn.{whole-fit, turn-foreign, turn-misfit, turn-taken}
 use Rattle.turns.proofs.Laws.Placed.{stored-still}
 use Rattle.turns.proofs.Laws.Take.{steps-cells}
@@ -164,8 +166,27 @@ module _ (b : Block) (t : ℕ) (mine : foreign (b .count) t ≡ false) (fit : E.
         unfolding placed
         stored-is = rw (el, eo, es, ei) refl
 
+        -- the job's status alone is stored: a final one as it was, and any other as the rules say
+        stored-keeps : Keeps b (storedAt b i s m ls)
+        stored-keeps = record { programs = refl; final = λ k l. final k l (ℕ-discrete k i); other = λ k l. other k l (ℕ-discrete k i) }
+          where
+            final : (k : ℕ) → 2 ≤ getD (b .status) k 0 → Dec (k ≡ i) → getD (set (b .status) i (m .own .status)) k 0 ≡ getD (b .status) k 0
+            final k l (yes q) = ap (λ (r : Block). getD (r .status) k 0) (sym stored-is ∙ done .did .left (idle-leaves b (t - 1) (rw (q, ei) at l)))
+            final k l (no n) = getD-set-other (b .status) i k (m .own .status) 0 n
+
+            stored : getD (b .status) i 0 < 2 → (m .own .status ≤ 2) ⊎ (m .own .status ≡ own .status) → m .own .status ≤ 2
+            stored l (inl h) = h
+            stored l (inr e) = let same : m .own .status ≡ getD (b .status) i 0 = e ∙ ap (λ (o : Own). o .status) eo in omega (arith, same, l)
+
+            other : (k : ℕ) → getD (b .status) k 0 < 2 → Dec (k ≡ i) → getD (set (b .status) i (m .own .status)) k 0 ≤ 2
+            other k l (yes q) =
+                rw (q, getD-set-same (b .status) i (m .own .status) 0 (omega (arith, ei, inner, long .status, whole .sized .count))) (stored (rw q at l) (moves .status))
+            other k l (no n) = rw (getD-set-other (b .status) i k (m .own .status) 0 n) (omega arith)
+
         pub stored-turn : Turns b t (record { word = m .word; block = storedAt b i s m ls })
-        stored-turn = turn-taken b t _ mine some inside fit (subst (λ (r : Block). Did b (t - 1) (moving b (t - 1)) (record { word = m .word; block = r })) stored-is (done .did))
+        stored-turn =
+            turn-taken b t _ mine some inside fit
+            (subst (λ (r : Block). Did b (t - 1) (moving b (t - 1)) (record { word = m .word; block = r })) stored-is (done .did)) stored-keeps
 
         pub stored-long : Long (storedAt b i s m ls)
         stored-long = record {
@@ -193,8 +214,11 @@ refusal-misfit x q = rw q refl
 pub ruleset refusal-laws = (refusal-ticket, refusal-misfit)
 
 module _ (refused : Bool) where
-  pub refused-place : (t : ℕ) → refused ≡ true → (refused ≡ false → 0 ≡ t - 1) × (0 < 16)
-  refused-place t q = ((λ z. not-both (sym z ∙ q)), omega arith)
+  pub refused-index : (t : ℕ) → refused ≡ true → (0 ≡ cond refused 0 (t - 1)) × (0 < 16)
+  refused-index t q = (rw q refl, omega arith)
+
+  pub taken-index : (t i : ℕ) → refused ≡ false → (i ≡ t - 1) × (i < 16) → (i ≡ cond refused 0 (t - 1)) × (i < 16)
+  taken-index t i q h = (rw q (h .0), h .1)
 
   pub refused-step : (j : Program) (s : State) → refused ≡ true → StepsIf refused j s (record { act = StuckAct; state = s })
   refused-step j s q = record { cells = record { low = λ c e. absurd (let z : _≡_ {A = ℕ} 0 1 = cc in omega arith) }; steps = λ z. not-both (sym z ∙ q) }
@@ -232,13 +256,16 @@ module _ (b : Block) (t : ℕ) (fits : Bool) (ef : fits ≡ E.blockFits limits b
   pub few-if : refused ≡ false → (0 < t) × (t ≤ 16)
   few-if q = few-tickets b t (mine-if q) (fit-if q)
 
-  pub standing-if : (i : ℕ) → (refused ≡ false → i ≡ t - 1) → refused ≡ false → (getD (b .states) i noState .place .0 < getD (b .jobs) i noProgram .size) × (getD (b .jobs) i noProgram .size ≤ LONGEST)
-  standing-if i ei q = standing b t (mine-if q) (fit-if q) i (ei q)
+  index-if : (i : ℕ) → i ≡ cond refused 0 (t - 1) → refused ≡ false → i ≡ t - 1
+  index-if i ei q = ei ∙ rw q refl
 
-  module _ (long : Long b) (i s k : ℕ) (ei : refused ≡ false → i ≡ t - 1) (es : s ≡ slotAt i (getD (b .reads) i noReads .size)) (ek : k ≡ slotAt i (getD (b .reads) i noReads .mark))
+  pub standing-if : (i : ℕ) → i ≡ cond refused 0 (t - 1) → refused ≡ false → (getD (b .states) i noState .place .0 < getD (b .jobs) i noProgram .size) × (getD (b .jobs) i noProgram .size ≤ LONGEST)
+  standing-if i ei q = standing b t (mine-if q) (fit-if q) i (index-if i ei q)
+
+  module _ (long : Long b) (i s k : ℕ) (ei : i ≡ cond refused 0 (t - 1)) (es : s ≡ slotAt i (getD (b .reads) i noReads .size)) (ek : k ≡ slotAt i (getD (b .reads) i noReads .mark))
       (own : Own) (around : Around) (eo : own ≡ partsAt b i s) (ea : around ≡ aroundOf b) where
     pub ready-if : refused ≡ false → Ready own around t
-    ready-if q = ready b t (mine-if q) (fit-if q) long i s k (ei q) es ek own around eo ea
+    ready-if q = ready b t (mine-if q) (fit-if q) long i s k (index-if i ei q) es ek own around eo ea
 
     module _ (step : Stepped) (steps : StepsIf refused (getD (b .jobs) i noProgram) (getD (b .states) i noState) step) (c : ℕ) (asks : Asks step c) (w : Word) (ew : w ≡ refusing (foreign (b .count) t))
         (m : Move) (moves : MovesIf refused w own (AtTurn step around (getD (b .start) c 0) (getD (b .checkpoints) k noCheckpoint) t) m) where
@@ -247,7 +274,7 @@ module _ (b : Block) (t : ℕ) (fits : Bool) (ef : fits ≡ E.blockFits limits b
         where
           at : m .marks ≡ true → (x : Bool) → refused ≡ x → (b .count ≤ 16) × ListsFit (set (b .reads) i (m .own .list)) (b .count) × Shown (showsOf own) × Shown (showsOf (m .own))
           at e true q = let quiet : m .marks ≡ false = rw (moves .stays q) refl in not-both (sym quiet ∙ e)
-          at e false q = may-mark b t (mine-if q) (fit-if q) long i s k (ei q) es ek own around eo ea step (steps .steps q) c asks m (moves .moves q) e _ _ refl refl
+          at e false q = may-mark b t (mine-if q) (fit-if q) long i s k (index-if i ei q) es ek own around eo ea step (steps .steps q) c asks m (moves .moves q) e _ _ refl refl
 
       turned-if : (ls : List Reads) → ls ≡ markedBy (m .marks) (set (b .reads) i (m .own .list)) (b .count) (showsOf own) (showsOf (m .own)) t
           → Turns b t (record { word = m .word; block = storedAt b i s m ls })
@@ -255,7 +282,7 @@ module _ (b : Block) (t : ℕ) (fits : Bool) (ef : fits ≡ E.blockFits limits b
         where
           go : (x : Bool) → refused ≡ x → Turns b t (record { word = m .word; block = storedAt b i s m ls })
           go true q = stored-refused b t i s fits ef (sym er ∙ q) own eo m (moves .stays q ∙ ap (λ (x : Word). still x own) ew) ls el
-          go false q = stored-turn b t (mine-if q) (fit-if q) long i s k (ei q) es ek own around eo ea step (steps .steps q) c asks m (moves .moves q) ls el
+          go false q = stored-turn b t (mine-if q) (fit-if q) long i s k (index-if i ei q) es ek own around eo ea step (steps .steps q) c asks m (moves .moves q) ls el
 
       pub changes-if : i < 16 → s < 128 → (r : Change) → r ≡ changeBy i s m (markedBy (m .marks) (set (b .reads) i (m .own .list)) (b .count) (showsOf own) (showsOf (m .own)) t) → Changes b t r
-      changes-if li ls r e = rw e (record { place = li; slot = ls; turns = turned-if _ refl })
+      changes-if li ls r e = rw e (record { index = rw (← ef, ← er) ei; slot = rw (← ef, ← er, ← ei) es; inside = li; within = ls; turns = turned-if _ refl })

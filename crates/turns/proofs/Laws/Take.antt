@@ -1,6 +1,7 @@
 -- A rule on a job's parts is the plain rule in any block that has these parts: the laws of the rules speak of the block, and the parts are its own.
 use mathlib.Core.Path.{_≡_, refl, ap, sym, subst, _∙_}
 use mathlib.Core.Bool.{Bool, true, false}
+use mathlib.Core.Logic.{inl, inr}
 use mathlib.Core.List.{List, [], _∷_, _++_}
 use Prim.Native.Nat.{ℕ, _+_, _-_, _*_, _≤_, _<_}
 use native.Mathlib.Omega.{arith}
@@ -33,8 +34,8 @@ use Rattle.turns.specs.declared.block.Block.{Block}
 use Rattle.turns.specs.declared.versions.Version.{Version}
 use Rattle.turns.specs.declared.versions.Shown.{Shown}
 use Rattle.turns.specs.declared.versions.Shown.the-variants.{Value, Nothing}
-use Rattle.turns.specs.declared.turn.Word.{Word}
-use Rattle.turns.specs.declared.turn.Word.the-variants.{Idle, Back, Wait, Stuck}
+use Rattle.turns.specs.declared.word.Word.{Word}
+use Rattle.turns.specs.declared.word.Word.the-variants.{Idle, Back, Wait, Stuck}
 use Rattle.turns.specs.declared.own.Own.{Own}
 use Rattle.turns.specs.declared.own.Around.{Around}
 use Rattle.turns.specs.declared.own.Move.{Move}
@@ -62,12 +63,14 @@ moves-as {o = o} {Q = Q} {p = p} e = subst (λ (y : Move). Moves o Q p y) (sym e
 module _ (o : Own) (next : State) (e : Entry) where
   pub own-write-full : (m : Move) → 8 ≤ o .journal .size → m ≡ still Stuck o → Moves o AtWrite (λ b i. writing b i next e) m
   own-write-full m l w = moves-as w (record {
+    status = inr refl;
     on = λ b t at q. subst (λ (x : Own). 8 ≤ x .journal .size → Done b t (writing b (t - 1) next e) (still Stuck x)) (sym (at .own))
         (λ m. still-done b t _ Stuck (write-full b (t - 1) next e m)) l;
   })
 
   pub own-write : (m : Move) → o .journal .size < 8 → Wrote o next e m → Moves o AtWrite (λ b i. writing b i next e) m
   own-write m l w = record {
+    status = inr (ap (λ (y : Move). y .own .status) (w .move));
     on = λ b t at q. subst (λ (y : Move). Done b t (writing b (t - 1) next e) y) (sym (w .move))
         (subst (λ (x : Own). x .journal .size < 8 → journalOf (m .own .journal) ≡ journalOf (x .journal) ++ (entryOf e ∷ []) → Done b t (writing b (t - 1) next e) (wrote x next (m .own .journal)))
         (sym (at .own))
@@ -82,6 +85,7 @@ pub ruleset own-write-laws = (own-write-full, own-write)
 module _ (o : Own) (around : Around) (start t : ℕ) (next : State) (c : Cell) where
   pub own-outside-full : (m : Move) → 8 ≤ o .list .size → m ≡ still Stuck o → Moves o (AtRead around start t next (c .0)) (λ b i. outside b i (c .0)) m
   own-outside-full m l w = moves-as w (record {
+    status = inr refl;
     on = λ b k at q. subst (λ (x : Own). 8 ≤ x .list .size → Done b k (outside b (k - 1) (c .0)) (still Stuck x)) (sym (at .own))
         (λ m. still-done b k _ Stuck (outside-full b (k - 1) (c .0) m)) l;
   })
@@ -89,7 +93,7 @@ module _ (o : Own) (around : Around) (start t : ℕ) (next : State) (c : Cell) w
   pub own-outside : (f : Version) (s : State) (m : Move) → o .list .size < 8 → versionOf f ≡ foundIn (around .journals) (around .versions) start (c .0) (t - 1)
       → stateOf s ≡ given ROOM (f .value) (stateOf next) → Lists o s (record { cell = c; source = f .source; value = f .value }) m
       → Moves o (AtRead around start t next (c .0)) (λ b i. outside b i (c .0)) m
-  own-outside f s m l ef es w = record { on = λ b k at q. subst (λ (y : Move). Done b k (outside b (k - 1) (c .0)) y) (sym (w .move)) (moved b k at q) }
+  own-outside f s m l ef es w = record { status = inr (ap (λ (y : Move). y .own .status) (w .move)); on = λ b k at q. subst (λ (y : Move). Done b k (outside b (k - 1) (c .0)) y) (sym (w .move)) (moved b k at q) }
     where
       moved : (b : Block) (k : ℕ) (at : At b k o) → AtRead around start t next (c .0) b k
           → Done b k (outside b (k - 1) (c .0)) (listed o s (m .own .list) (record { state = o .state; writes = o .journal .size; listed = o .list .size }))
@@ -117,6 +121,7 @@ module _ (o : Own) (around : Around) (first t : ℕ) (next : State) (c : Cell) (
     (ex : valueOf x ≡ orElse (lastValue (journalOf (o .journal)) (c .0)) (listedIn (o .list) (c .0))) where
   pub own-held : (v : ℕ) (s : State) (m : Move) → x ≡ Value v → stateOf s ≡ given ROOM v (stateOf next) → m ≡ stepped o s → Moves o (AtRead around first t next (c .0)) (λ b i. reading b i (c .0)) m
   own-held v s m e es w = moves-as w (record {
+    status = inr refl;
     on = λ b k at q. subst
         (λ (y : Own). valueOf x ≡ orElse (lastValue (journalOf (y .journal)) (c .0)) (listedIn (y .list) (c .0)) → Done b k (reading b (k - 1) (c .0)) (stepped y s)) (sym (at .own))
         (λ h. quiet-done b k _ _ _
@@ -127,6 +132,7 @@ module _ (o : Own) (around : Around) (first t : ℕ) (next : State) (c : Cell) (
   pub own-else : (m : Move) → x ≡ Nothing → Moves o (AtRead around first t next (c .0)) (λ b i. outside b i (c .0)) m
       → Moves o (AtRead around first t next (c .0)) (λ b i. reading b i (c .0)) m
   own-else m e h = record {
+    status = h .status;
     on = λ b k at q.
         let d = h .on b k at q in
         let held : valueOf x ≡ orElse (lastValue (journalOf (getD (b .journals) (k - 1) noJournal)) (c .0)) (listedIn (getD (b .reads) (k - 1) noReads) (c .0)) = rw (at .own) at ex in
@@ -139,6 +145,7 @@ pub ruleset own-read-laws = (own-held, own-else)
 module _ (o : Own) (around : Around) (first t : ℕ) (done : Stepped) where
   pub own-nothing : (m : Move) → done .act ≡ NoAct → m ≡ stepped o (done .state) → Moves o (AtStep done around first t) stepping m
   own-nothing m e w = moves-as w (record {
+    status = inr refl;
     on = λ b k at q. subst (λ (y : Own). Done b k (stepping b (k - 1)) (stepped y (done .state))) (sym (at .own))
         (quiet-done b k _ _ _
         (step-nothing b (k - 1) done (q .steps) _ e (inside-of (b .count) k (at .some) (at .inside)) (P.becomes-step b k (at .some) (at .inside) (at .whole .sized) (at .long) (done .state))));
@@ -146,6 +153,7 @@ module _ (o : Own) (around : Around) (first t : ℕ) (done : Stepped) where
 
   pub own-reads : (c : Cell) (m : Move) → done .act ≡ ReadAct c → Moves o (AtRead around first t (done .state) (c .0)) (λ b i. reading b i (c .0)) m → Moves o (AtStep done around first t) stepping m
   own-reads c m e g = record {
+    status = g .status;
     on = λ b k at q.
         let d = g .on b k at (record { ticket = q .ticket; around = q .around; start = q .start c e; reading = step-reading b (k - 1) done (q .steps) c e }) in
         record { did = step-read b (k - 1) done (q .steps) c _ e (d .did); shown = d .shown; few = d .few };
@@ -154,11 +162,13 @@ module _ (o : Own) (around : Around) (first t : ℕ) (done : Stepped) where
   pub own-writes : (c : Cell) (v : ℕ) (m : Move) → done .act ≡ WriteAct c v → Moves o AtWrite (λ b i. writing b i (done .state) (record { cell = c; value = v })) m
       → Moves o (AtStep done around first t) stepping m
   own-writes c v m e g = record {
+    status = g .status;
     on = λ b k at q. let d = g .on b k at (record {}) in record { did = step-write b (k - 1) done (q .steps) c v _ e (d .did); shown = d .shown; few = d .few };
   }
 
   pub own-stuck : (m : Move) → done .act ≡ StuckAct → m ≡ still Stuck o → Moves o (AtStep done around first t) stepping m
   own-stuck m e w = moves-as w (record {
+    status = inr refl;
     on = λ b k at q. subst (λ (y : Own). Done b k (stepping b (k - 1)) (still Stuck y)) (sym (at .own))
         (still-done b k _ Stuck (step-stuck b (k - 1) done (q .steps) e));
   })
@@ -172,6 +182,7 @@ module _ (o : Own) (around : Around) (first t : ℕ) (done : Stepped) where
 
   pub own-stop : (new : Versions) (m : Move) → done .act ≡ StopAct → versionsOf new ≡ published (journalOf (o .journal)) → m ≡ ended o new → Moves o (AtStep done around first t) stepping m
   own-stop new m e v w = moves-as w (record {
+    status = inl (omega arith);
     on = λ b k at q.
         let u : versionsOf new ≡ published (journalOf (getD (b .journals) (k - 1) noJournal)) = rw (at .own) at v in
         ends new b k at (stop-showing b k new (at .whole) (at .some) (at .inside) u)
@@ -180,6 +191,7 @@ module _ (o : Own) (around : Around) (first t : ℕ) (done : Stepped) where
 
   pub own-abandon : (new : Versions) (m : Move) → done .act ≡ AbandonAct → versionsOf new ≡ [] → m ≡ ended o new → Moves o (AtStep done around first t) stepping m
   own-abandon new m e v w = moves-as w (record {
+    status = inl (omega arith);
     on = λ b k at q.
         ends new b k at (abandon-showing b k new (at .whole) (at .some) (at .inside) v)
         (step-abandon b (k - 1) done (q .steps) new _ e (inside-of (b .count) k (at .some) (at .inside)) v (P.becomes-end b k (at .some) (at .inside) (at .whole .sized) (at .long) new));
@@ -189,7 +201,7 @@ pub own-entries : (o : Own) (around : Around) (t : ℕ) → Ready o around t →
 own-entries o around t r = r .showing .entries
 
 pub own-versions : (o : Own) (around : Around) (t : ℕ) → Ready o around t → o .versions .size ≤ 8
-own-versions o around t r = r .showing .places
+own-versions o around t r = r .showing .numbers
 
 pub ruleset own-step-laws = (own-nothing, own-reads, own-writes, own-stuck, own-stop, own-abandon, own-entries)
 
@@ -228,12 +240,14 @@ pub ruleset asks-laws = (asks-nothing, asks-stop, asks-abandon, asks-stuck, asks
 module _ (step : Stepped) (o : Own) (around : Around) (first : ℕ) (c : Checkpoint) (t : ℕ) where
   pub own-idle : (m : Move) → 2 ≤ o .status → m ≡ still Idle o → Moves o (AtTurn step around first c t) moving m
   own-idle m l w = moves-as w (record {
+    status = inr refl;
     on = λ b k at q. subst (λ (y : Own). 2 ≤ y .status → Done b k (moving b (k - 1)) (still Idle y)) (sym (at .own))
         (λ m. still-done b k _ Idle (move-idle b (k - 1) m)) l;
   })
 
   pub own-on : (m : Move) → o .list .mark ≡ 255 → o .status ≡ 0 → Moves o (AtStep step around first t) stepping m → Moves o (AtTurn step around first c t) moving m
   own-on m em es g = record {
+    status = g .status;
     on = λ b k at q.
         let d = g .on b k at (q .step) in
         record { did = move-step b (k - 1) _ (rw (at .own) at em) (rw (at .own) at es) (d .did); shown = d .shown; few = d .few };
@@ -245,6 +259,7 @@ module _ (step : Stepped) (o : Own) (around : Around) (first : ℕ) (c : Checkpo
 
     pub own-final : (r : Move) → x ≡ true → r ≡ settledOwn o → Moves o (AtTurn step around first c t) moving r
     own-final r e w = moves-as w (record {
+      status = inl (omega arith);
       on = λ b k at q.
           let inside = inside-of (b .count) k (at .some) (at .inside) in
           subst (λ (y : Own). y .status < 2 → (y .status ≡ 0 → ⊥) → y .list .mark ≡ 255 → Done b k (moving b (k - 1)) (settledOwn y)) (sym (at .own))
@@ -253,6 +268,7 @@ module _ (step : Stepped) (o : Own) (around : Around) (first : ℕ) (c : Checkpo
 
     pub own-wait : (r : Move) → x ≡ false → r ≡ still Wait o → Moves o (AtTurn step around first c t) moving r
     own-wait r e w = moves-as w (record {
+      status = inr refl;
       on = λ b k at q.
           let inside = inside-of (b .count) k (at .some) (at .inside) in
           subst (λ (y : Own). y .status < 2 → (y .status ≡ 0 → ⊥) → y .list .mark ≡ 255 → Done b k (moving b (k - 1)) (still Wait y)) (sym (at .own))
@@ -260,7 +276,7 @@ module _ (step : Stepped) (o : Own) (around : Around) (first : ℕ) (c : Checkpo
     })
 
   pub own-back : (m : Move) → o .status < 2 → (o .list .mark ≡ 255 → ⊥) → Goes o c m → Moves o (AtTurn step around first c t) moving m
-  own-back m l n g = record { on = λ b k at q. subst (λ (y : Move). Done b k (moving b (k - 1)) y) (sym (g .move)) (back b k at q) }
+  own-back m l n g = record { status = inl (let e : m .own .status ≡ 0 = ap (λ (y : Move). y .own .status) (g .move) in omega (arith, e)); on = λ b k at q. subst (λ (y : Move). Done b k (moving b (k - 1)) y) (sym (g .move)) (back b k at q) }
     where
       v : Versions
       v = m .own .versions

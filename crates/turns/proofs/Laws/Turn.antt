@@ -4,6 +4,7 @@ use mathlib.Core.Bool.{Bool, true, false, not}
 use mathlib.Core.Logic.{_⊎_, inl, inr}
 use Prim.Native.Nat.{ℕ, _-_, _≤_, _<_}
 use native.Mathlib.Omega.{arith}
+use native.Mathlib.Decide.{decLt}
 use lib.ListN.{length, getD}
 use borrow.Author.Tests.{not-true}
 use Rattle.theory.specs.Lists.{length-tab}
@@ -15,9 +16,9 @@ use Rattle.turns.specs.Box.{box, limits}
 use Rattle.turns.specs.View.{noReads}
 use Rattle.turns.specs.Block.{jobOf, blockOf}
 use Rattle.turns.specs.Fitting.{count-fit, block-fit}
-use Rattle.turns.specs.Turn.{wordOf, leaves, jobs, cells, moving, foreign, Did, Turns, Whole}
+use Rattle.turns.specs.Turn.{wordOf, leaves, jobs, cells, moving, foreign, Did, Keeps, Turns, Whole}
 use Rattle.turns.specs.declared.block.Block.{Block}
-use Rattle.turns.specs.declared.turn.Word.the-variants.{BadTicket, Stuck}
+use Rattle.turns.specs.declared.word.Word.the-variants.{BadTicket, Stuck}
 use Rattle.turns.specs.declared.turn.Turned.{Turned}
 use Rattle.turns.proofs.Laws.Reading.{job-at}
 
@@ -44,21 +45,44 @@ moved-is : (b : Block) (i : ℕ) → i < b .count → E.moveAt limits box (block
 unfolding E.move moving
 moved-is b i l = ap (λ (j : E.Job Running). E.ruled FEW box (cells b) (jobs b) i j (j .status) (j .mark)) (job-at b i l)
 
+-- ---- what the plain block does not show
+pub keeps-same : (b : Block) → Keeps b b
+keeps-same b = record { programs = refl; final = λ k l. refl; other = λ k l. omega arith }
+
+pub keeps-on : (b c r : Block) → Keeps b c → Keeps c r → Keeps b r
+keeps-on b c r g h = record {
+  programs = h .programs ∙ g .programs;
+  final = λ k l. h .final k (rw (g .final k l) l) ∙ g .final k l;
+  other = λ k l. on k (g .other k l) (decLt (getD (c .status) k 0) 2);
+}
+  where
+    on : (k : ℕ) → getD (c .status) k 0 ≤ 2 → Dec (getD (c .status) k 0 < 2) → getD (r .status) k 0 ≤ 2
+    on k l (yes m) = h .other k m
+    on k l (no m) = rw (h .final k (omega arith)) l
+
 module _ (b : Block) (t : ℕ) where
   pub turn-foreign : (x : Bool) → x ≡ foreign (b .count) t → x ≡ true → Turns b t (record { word = BadTicket; block = b })
-  unfolding E.turn wordOf
-  turn-foreign x e q = record { word = rw (job-count b, ← e, q) refl; block = rw (job-count b, ← e, q) refl; left = λ z. refl }
+  unfolding E.turn wordOf W.refusal
+  turn-foreign x e q = record { word = rw (job-count b, ← e, q) refl; refusal = rw (job-count b, ← e, q) refl; block = rw (job-count b, ← e, q) refl; keeps = keeps-same b; left = λ z. refl }
 
   pub turn-misfit : (x fits : Bool) → x ≡ foreign (b .count) t → x ≡ false → fits ≡ E.blockFits limits box (blockOf b) → not fits ≡ true → Turns b t (record { word = Stuck; block = b })
-  unfolding E.turn wordOf
+  unfolding E.turn wordOf W.refusal
   turn-misfit x fits ex qx ef q =
-      record { word = rw (job-count b, ← ex, qx, ← ef, not-true fits q) refl; block = rw (job-count b, ← ex, qx, ← ef, not-true fits q) refl; left = λ z. refl }
+      record {
+        word = rw (job-count b, ← ex, qx, ← ef, not-true fits q) refl;
+        refusal = rw (job-count b, ← ex, qx, ← ef, not-true fits q) refl;
+        block = rw (job-count b, ← ex, qx, ← ef, not-true fits q) refl;
+        keeps = keeps-same b;
+        left = λ z. refl;
+      }
 
-  took : (m : E.Moved Running) → E.turn limits box (blockOf b) t ≡ E.moveTo limits box (blockOf b) (t - 1) (m .word) (m .job) → (r : Turned) → Did b (t - 1) m r → Turns b t r
-  took m e r d = record {
-    word = d .word ∙ sym (ap (λ (x : E.Turned limits box). x .word) e ∙ said (m .word));
+  took : (m : E.Moved Running) → E.turn limits box (blockOf b) t ≡ E.moveTo limits box (blockOf b) (t - 1) (m .word) (m .job) → (r : Turned) → Did b (t - 1) m r → Keeps b (r .block) → Turns b t r
+  took m e r d k = record {
+    word = d .word ∙ sym told;
+    refusal = ap W.refusal (d .word ∙ sym told);
     block = d .block ∙ ap (λ (x : E.Turned limits box). x .block) (sym e);
-    left = λ q. d .left (sym (ap leaves (ap (λ (x : E.Turned limits box). x .word) e ∙ said (m .word))) ∙ q);
+    keeps = k;
+    left = λ q. d .left (sym (ap leaves told) ∙ q);
   }
     where
       said : (w : W.Word) → E.moveTo limits box (blockOf b) (t - 1) w (m .job) .word ≡ w
@@ -71,6 +95,9 @@ module _ (b : Block) (t : ℕ) where
       said W.badTicket = refl
       said W.stuck = refl
 
-  pub turn-taken : (r : Turned) → foreign (b .count) t ≡ false → 0 < t → t ≤ b .count → E.blockFits limits box (blockOf b) ≡ true → Did b (t - 1) (moving b (t - 1)) r → Turns b t r
+      told : E.turn limits box (blockOf b) t .word ≡ m .word
+      told = ap (λ (x : E.Turned limits box). x .word) e ∙ said (m .word)
+
+  pub turn-taken : (r : Turned) → foreign (b .count) t ≡ false → 0 < t → t ≤ b .count → E.blockFits limits box (blockOf b) ≡ true → Did b (t - 1) (moving b (t - 1)) r → Keeps b (r .block) → Turns b t r
   unfolding E.turn
-  turn-taken r x p l e d = took (moving b (t - 1)) (rw (job-count b, x, e, moved-is b (t - 1) (omega arith)) refl) r d
+  turn-taken r x p l e d k = took (moving b (t - 1)) (rw (job-count b, x, e, moved-is b (t - 1) (omega arith)) refl) r d k

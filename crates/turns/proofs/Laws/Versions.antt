@@ -13,7 +13,7 @@ use borrow.Author.Tests.{eq-eqb, ne-eqb, lt-ltb, le-ltb}
 use Rattle.theory.specs.Lists.{length-tab, getD-tab, tab-same, drop-tab}
 use Rattle.theory.specs.Engine as E
 use Rattle.theory.specs.Engine.{shownAt, writes?, lastsFrom, published, withdrawn}
-use Rattle.turns.specs.View.{entryOf, journalOf, length-journal, placeAt, place-low, versionsOf, placeOf, noJournal, noVersions, Showing, ShowingBelow, lastOne, keptOne, valueOf, versionOf, versionAt, foundIn}
+use Rattle.turns.specs.View.{entryOf, journalOf, length-journal, numberAt, number-low, versionsOf, foundOf, noJournal, noVersions, Showing, ShowingBelow, lastOne, keptOne, valueOf, versionOf, versionAt, foundIn}
 use Rattle.turns.specs.declared.block.Entry.{Entry}
 use Rattle.turns.specs.declared.block.Journal.{Journal}
 use Rattle.turns.specs.declared.block.Versions.{Versions}
@@ -26,42 +26,42 @@ use Rattle.turns.specs.declared.versions.Shown.the-variants.{Value, Noth
 
 pub length-versions : (v : Versions) → length (versionsOf v) ≡ v .size
 unfolding versionsOf
-length-versions v = length-tab (v .size) (placeAt v)
+length-versions v = length-tab (v .size) (numberAt v)
 
-pub version-none : (ps : List ℕ) → versionsOf (record { places = ps; size = 0 }) ≡ []
+pub version-none : (ps : List ℕ) → versionsOf (record { numbers = ps; size = 0 }) ≡ []
 unfolding versionsOf
 version-none ps = refl
 
-pub version-added : (v : Versions) (p : ℕ) → v .size < 8 → length (v .places) ≡ 8 → versionsOf (record { places = set (v .places) (v .size) p; size = v .size + 1 }) ≡ versionsOf v ++ (p ∷ [])
-unfolding versionsOf placeAt
+pub version-added : (v : Versions) (p : ℕ) → v .size < 8 → length (v .numbers) ≡ 8 → versionsOf (record { numbers = set (v .numbers) (v .size) p; size = v .size + 1 }) ≡ versionsOf v ++ (p ∷ [])
+unfolding versionsOf numberAt
 version-added v p l w =
-    rw (add-one (v .size), lt-ltb (v .size) 8 l, getD-set-same (v .places) (v .size) p 0 (omega arith))
-    (ap (λ (ps : List ℕ). ps ++ (p ∷ [])) (tab-same (v .size) _ _ (λ k m. rw (lt-ltb k 8 (omega arith)) (getD-set-other (v .places) (v .size) k p 0 (λ q. omega arith)))))
+    rw (add-one (v .size), lt-ltb (v .size) 8 l, getD-set-same (v .numbers) (v .size) p 0 (omega arith))
+    (ap (λ (ps : List ℕ). ps ++ (p ∷ [])) (tab-same (v .size) _ _ (λ k m. rw (lt-ltb k 8 (omega arith)) (getD-set-other (v .numbers) (v .size) k p 0 (λ q. omega arith)))))
 
 pub ruleset add-laws = (version-none, version-added)
 
 -- ---- from where a cell is shown
-pub shown-named : (j : Journal) (v : Versions) (k : ℕ) → Showing j v → k < v .size → getD (v .places) k 0 < j .size
+pub shown-named : (j : Journal) (v : Versions) (k : ℕ) → Showing j v → k < v .size → getD (v .numbers) k 0 < j .size
 shown-named j v k s l = s .named k l
 
-pub cut : (v : Versions) (k : ℕ) → v .size ≤ 8 → k < v .size → drop k (versionsOf v) ≡ getD (v .places) k 0 ∷ drop (suc k) (versionsOf v)
+pub cut : (v : Versions) (k : ℕ) → v .size ≤ 8 → k < v .size → drop k (versionsOf v) ≡ getD (v .numbers) k 0 ∷ drop (suc k) (versionsOf v)
 unfolding versionsOf
-cut v k few l = rw (place-low v k (omega arith)) (drop-tab (v .size) (placeAt v) k l)
+cut v k few l = rw (number-low v k (omega arith)) (drop-tab (v .size) (numberAt v) k l)
 
 module _ (j : Journal) (v : Versions) (c k : ℕ) (R : Option ℕ) where
-  module _ (s : Showing j v) (l : k < v .size) (e : Entry) (ee : entryOf e ≡ getD (journalOf j) (getD (v .places) k 0) E.noEntry) where
-    is-cell : getD (journalOf j) (getD (v .places) k 0) E.noEntry .cell ≡ e .cell .0
+  module _ (s : Showing j v) (l : k < v .size) (e : Entry) (ee : entryOf e ≡ getD (journalOf j) (getD (v .numbers) k 0) E.noEntry) where
+    is-cell : getD (journalOf j) (getD (v .numbers) k 0) E.noEntry .cell ≡ e .cell .0
     is-cell = ap (λ (x : E.Entry). x .cell) (sym ee)
 
-    pub shown-here : e .cell .0 ≡ c → shownAt (journalOf j) (drop k (versionsOf v)) c ≡ R → placeOf (At (getD (v .places) k 0)) ≡ R
-    unfolding placeOf
-    shown-here q r = sym (ap (λ (vs : List ℕ). shownAt (journalOf j) vs c) (cut v k (s .places) l) ∙ rw (is-cell, eq-eqb (e .cell .0) c q) refl) ∙ r
+    pub shown-here : e .cell .0 ≡ c → shownAt (journalOf j) (drop k (versionsOf v)) c ≡ R → foundOf (At (getD (v .numbers) k 0)) ≡ R
+    unfolding foundOf
+    shown-here q r = sym (ap (λ (vs : List ℕ). shownAt (journalOf j) vs c) (cut v k (s .numbers) l) ∙ rw (is-cell, eq-eqb (e .cell .0) c q) refl) ∙ r
 
     pub shown-on : (e .cell .0 ≡ c → ⊥) → shownAt (journalOf j) (drop k (versionsOf v)) c ≡ R → shownAt (journalOf j) (drop (k + 1) (versionsOf v)) c ≡ R
-    shown-on q r = rw (add-one k) (sym (ap (λ (vs : List ℕ). shownAt (journalOf j) vs c) (cut v k (s .places) l) ∙ rw (is-cell, ne-eqb (e .cell .0) c q) refl) ∙ r)
+    shown-on q r = rw (add-one k) (sym (ap (λ (vs : List ℕ). shownAt (journalOf j) vs c) (cut v k (s .numbers) l) ∙ rw (is-cell, ne-eqb (e .cell .0) c q) refl) ∙ r)
 
-  pub shown-end : v .size ≤ k → shownAt (journalOf j) (drop k (versionsOf v)) c ≡ R → placeOf Nowhere ≡ R
-  unfolding placeOf
+  pub shown-end : v .size ≤ k → shownAt (journalOf j) (drop k (versionsOf v)) c ≡ R → foundOf Nowhere ≡ R
+  unfolding foundOf
   shown-end l r = sym (ap (λ (vs : List ℕ). shownAt (journalOf j) vs c) (drop-of-length-le (versionsOf v) {i = k} (rw (length-versions v) l))) ∙ r
 
 pub ruleset shown-laws = (shown-named, shown-here, shown-on, shown-end)
@@ -155,12 +155,12 @@ module _ (v : Versions) (n k : ℕ) (R : List ℕ) where
       go true = refl
       go false = refl
 
-  pub withdraw-on : (w r : Versions) → v .size ≤ 8 → k < v .size → versionsOf r ≡ versionsOf w ++ keptOne n (getD (v .places) k 0) → versionsOf w ++ withdrawn n (drop k (versionsOf v)) ≡ R
+  pub withdraw-on : (w r : Versions) → v .size ≤ 8 → k < v .size → versionsOf r ≡ versionsOf w ++ keptOne n (getD (v .numbers) k 0) → versionsOf w ++ withdrawn n (drop k (versionsOf v)) ≡ R
       → versionsOf r ++ withdrawn n (drop (k + 1) (versionsOf v)) ≡ R
   unfolding keptOne
   withdraw-on w r few l e q =
       rw (add-one k, e, append-assoc)
-      (ap (λ (ps : List ℕ). versionsOf w ++ ps) (sym (ap (withdrawn n) (cut v k few l) ∙ one-kept (getD (v .places) k 0) (drop (suc k) (versionsOf v)))) ∙ q)
+      (ap (λ (ps : List ℕ). versionsOf w ++ ps) (sym (ap (withdrawn n) (cut v k few l) ∙ one-kept (getD (v .numbers) k 0) (drop (suc k) (versionsOf v)))) ∙ q)
 
   pub withdraw-end : (w : Versions) → v .size ≤ k → versionsOf w ++ withdrawn n (drop k (versionsOf v)) ≡ R → versionsOf w ≡ R
   withdraw-end w l q = sym (append-nil (versionsOf w)) ∙ ap (λ (ps : List ℕ). versionsOf w ++ withdrawn n ps) (sym (drop-of-length-le (versionsOf v) {i = k} (rw (length-versions v) l))) ∙ q
@@ -188,19 +188,19 @@ shown-listed es (v ∷ vs) n c p h e = go (eqb (getD es v E.noEntry .cell) c) e 
     go true q ih = let w : v ≡ p = cc in rw (← w) (h 0 (omega arith))
     go false q ih = ih q
 
-pub shown-low : (j : Journal) (v : Versions) (c p : ℕ) (r : Found) → Showing j v → placeOf r ≡ shownAt (journalOf j) (versionsOf v) c → r ≡ At p → p < j .size
-unfolding placeOf versionsOf
+pub shown-low : (j : Journal) (v : Versions) (c p : ℕ) (r : Found) → Showing j v → foundOf r ≡ shownAt (journalOf j) (versionsOf v) c → r ≡ At p → p < j .size
+unfolding foundOf versionsOf
 shown-low j v c p r s e q =
     shown-listed (journalOf j) (versionsOf v) (j .size) c p
-    (λ k l. let m = rw (length-versions v) at l in rw (getD-tab (v .size) (placeAt v) k 0 m, ← place-low v k (omega (arith, s .places))) (s .named k m)) (sym e ∙ ap placeOf q)
+    (λ k l. let m = rw (length-versions v) at l in rw (getD-tab (v .size) (numberAt v) k 0 m, ← number-low v k (omega (arith, s .numbers))) (s .named k m)) (sym e ∙ ap foundOf q)
 
-module _ (j : Journal) (v : Versions) (c : ℕ) (r : Found) (er : placeOf r ≡ shownAt (journalOf j) (versionsOf v) c) where
+module _ (j : Journal) (v : Versions) (c : ℕ) (r : Found) (er : foundOf r ≡ shownAt (journalOf j) (versionsOf v) c) where
   pub value-none : r ≡ Nowhere → valueOf Nothing ≡ E.valueAt (journalOf j) (shownAt (journalOf j) (versionsOf v) c)
-  unfolding placeOf valueOf
+  unfolding foundOf valueOf
   value-none q = rw (← er, q) refl
 
   pub value-some : (p : ℕ) (e : Entry) → r ≡ At p → entryOf e ≡ getD (journalOf j) p E.noEntry → valueOf (Value (e .value)) ≡ E.valueAt (journalOf j) (shownAt (journalOf j) (versionsOf v) c)
-  unfolding placeOf valueOf
+  unfolding foundOf valueOf
   value-some p e q w = rw (← er, q, ← w) refl
 
 pub ruleset value-laws = (shown-low, value-none, value-some)

@@ -1,84 +1,27 @@
--- Each word has its number,
--- and each arm gives it.
+-- A word that is no refusal has its byte,
+-- and a refusal its number.
 use borrow.Author.Needs.{needs}
-use Rattle.turns.specs.Turn.{wordOf}
-use Rattle.garvolish.specs.Numbers.{wordNumber}
+use Rattle.garvolish.proofs.Laws.{word-laws}
 use Rattle.garvolish.proofs.number.number_of_word.Statement.{statement}
 use Rattle.garvolish.proofs.number.number_of_word.Tie as tie
 
-enum-told : tie.Need-enum-told
-enum-told c = search needs
+refusal-requires : tie.Need-refusal-requires
+refusal-requires c κs = search needs
 
-enum-told-2 : tie.Need-enum-told-2
-enum-told-2 c = search needs
+byte-requires : tie.Need-byte-requires
+byte-requires c κs = search needs
 
-enum-told-3 : tie.Need-enum-told-3
-enum-told-3 c = search needs
-
-enum-told-4 : tie.Need-enum-told-4
-enum-told-4 c = search needs
-
-enum-told-5 : tie.Need-enum-told-5
-enum-told-5 c = search needs
-
-enum-told-6 : tie.Need-enum-told-6
-enum-told-6 c = search needs
-
-enum-told-7 : tie.Need-enum-told-7
-enum-told-7 c = search needs
-
-enum-told-8 : tie.Need-enum-told-8
-enum-told-8 c = search needs
+cast-result : tie.Need-cast-result
+cast-result c = search needs
 
 returns : tie.Need-returns
-unfolding wordNumber wordOf
-returns c = search needs
+returns c = search (word-laws, needs)
+
+cast-result-2 : tie.Need-cast-result-2
+cast-result-2 c = search needs
 
 returns-2 : tie.Need-returns-2
-unfolding wordNumber wordOf
-returns-2 c = search needs
-
-returns-3 : tie.Need-returns-3
-unfolding wordNumber wordOf
-returns-3 c = search needs
-
-returns-4 : tie.Need-returns-4
-unfolding wordNumber wordOf
-returns-4 c = search needs
-
-returns-5 : tie.Need-returns-5
-unfolding wordNumber wordOf
-returns-5 c = search needs
-
-returns-6 : tie.Need-returns-6
-unfolding wordNumber wordOf
-returns-6 c = search needs
-
-returns-7 : tie.Need-returns-7
-unfolding wordNumber wordOf
-returns-7 c = search needs
-
-returns-8 : tie.Need-returns-8
-unfolding wordNumber wordOf
-returns-8 c = search needs
+returns-2 c = search (word-laws, needs)
 
 pub number-of-word-spec : {M : Type 1} → statement M
-number-of-word-spec =
-    tie.close
-    (tie.spec
-    enum-told
-    enum-told-2
-    enum-told-3
-    enum-told-4
-    enum-told-5
-    enum-told-6
-    enum-told-7
-    enum-told-8
-    returns
-    returns-2
-    returns-3
-    returns-4
-    returns-5
-    returns-6
-    returns-7
-    returns-8)
+number-of-word-spec = tie.close (tie.spec refusal-requires byte-requires cast-result returns cast-result-2 returns-2)

@@ -10,7 +10,7 @@ use Rattle.sessions.proofs.fields.cells_into.Statement.{statement}
 use Rattle.sessions.proofs.fields.cells_into.Tie as tie
 
 abbrev Inv-loop : tie.InvT-loop
-Inv-loop input table₀ least₀ at₀ table least at = (at ≤ length input) × (length table ≡ 256) × (fromCell least table (drop at input) ≡ fromCell 0 table₀ input)
+Inv-loop input table₀ least₀ at₀ table least at = (at ≤ length input) × (length table ≡ 256) × (fromCell (least .0) table (drop at input) ≡ fromCell 0 table₀ input)
 
 abbrev μ-loop : tie.MeasureT-loop
 μ-loop input table₀ least₀ at₀ table least at = length input - at
@@ -52,8 +52,8 @@ mul-table c = search (start-laws, needs)
 array-write-table : tie.Need-array-write-table Inv-loop μ-loop
 array-write-table c = search (start-laws, needs)
 
-add-least : tie.Need-add-least Inv-loop μ-loop
-add-least c = search (start-laws, needs)
+add-next : tie.Need-add-next Inv-loop μ-loop
+add-next c = search (start-laws, needs)
 
 add-at : tie.Need-add-at Inv-loop μ-loop
 add-at c = search (start-laws, needs)
@@ -89,7 +89,7 @@ cells-into-spec =
     cast-table
     mul-table
     array-write-table
-    add-least
+    add-next
     add-at
     loop-less
     loop-again

@@ -15,6 +15,9 @@ slice-aggregate-put-all c = search needs
 put-all-requires : tie.Need-put-all-requires
 put-all-requires c κs = search needs
 
+cast-put-decimal : tie.Need-cast-put-decimal
+cast-put-decimal c = search needs
+
 put-decimal-requires : tie.Need-put-decimal-requires
 put-decimal-requires c κs = search needs
 
@@ -34,6 +37,7 @@ put-cell-spec =
     returns
     slice-aggregate-put-all
     put-all-requires
+    cast-put-decimal
     put-decimal-requires
     put-last-requires
     same-length

@@ -1,5 +1,6 @@
 -- The lines of the cells from the k-th on are still to put;
 -- one goes, and the next is where it ended.
+use mathlib.Core.Path.{_≡_}
 use Prim.Native.Nat.{_-_, _≤_}
 use lib.ListN.{length, drop}
 use Rattle.sessions.specs.Text.{cellLines}
@@ -9,13 +10,16 @@ use Rattle.sessions.proofs.text.put_cells.Statement.{statement}
 use Rattle.sessions.proofs.text.put_cells.Tie as tie
 
 abbrev Inv-loop : tie.InvT-loop
-Inv-loop out₀ at table to₀ k₀ out to k = (k ≤ length table) × Still out₀ to₀ (cellLines 0 table) out to (cellLines k (drop k table))
+Inv-loop out₀ at table to₀ k₀ out to k = (k ≤ length table) × (length table ≡ 256) × Still out₀ to₀ (cellLines 0 table) out to (cellLines k (drop k table))
 
 abbrev μ-loop : tie.MeasureT-loop
 μ-loop out₀ at table to₀ k₀ out to k = length table - k
 
 loop-holds : tie.Need-loop-holds Inv-loop μ-loop
 loop-holds c = search (cells-laws, needs)
+
+cast-number : tie.Need-cast-number Inv-loop μ-loop
+cast-number c = search (cells-laws, needs)
 
 mul-put-cell : tie.Need-mul-put-cell Inv-loop μ-loop
 mul-put-cell c = search (cells-laws, needs)
@@ -48,6 +52,7 @@ put-cells-spec =
     Inv-loop
     μ-loop
     loop-holds
+    cast-number
     mul-put-cell
     shared-slice-read-put-cell
     put-cell-requires

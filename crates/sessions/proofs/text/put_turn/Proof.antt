@@ -6,6 +6,9 @@ use borrow.Author.Needs.{needs}
 use Rattle.sessions.proofs.text.put_turn.Statement.{statement}
 use Rattle.sessions.proofs.text.put_turn.Tie as tie
 
+cast-put-named : tie.Need-cast-put-named
+cast-put-named c = search needs
+
 put-named-requires : tie.Need-put-named-requires
 put-named-requires c κs = search needs
 
@@ -19,4 +22,4 @@ returns : tie.Need-returns
 returns c = search (turn-line-laws, needs)
 
 pub put-turn-spec : {M : Type 1} → statement M
-put-turn-spec = tie.close (tie.spec put-named-requires put-last-requires same-length returns)
+put-turn-spec = tie.close (tie.spec cast-put-named put-named-requires put-last-requires same-length returns)

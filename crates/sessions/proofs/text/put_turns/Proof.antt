@@ -27,8 +27,8 @@ final-one-requires c κs = search (lines-laws, needs)
 add-f : tie.Need-add-f Inv-loop μ-loop
 add-f c = search (lines-laws, needs)
 
-shared-slice-read-put-turn : tie.Need-shared-slice-read-put-turn Inv-loop μ-loop
-shared-slice-read-put-turn c = search (lines-laws, needs)
+shared-slice-read-t : tie.Need-shared-slice-read-t Inv-loop μ-loop
+shared-slice-read-t c = search (lines-laws, needs)
 
 put-turn-requires : tie.Need-put-turn-requires Inv-loop μ-loop
 put-turn-requires c κs = search (lines-laws, needs)
@@ -58,7 +58,7 @@ put-turns-spec =
     shared-slice-read-w
     final-one-requires
     add-f
-    shared-slice-read-put-turn
+    shared-slice-read-t
     put-turn-requires
     add-k
     loop-less

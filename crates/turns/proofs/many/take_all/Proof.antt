@@ -41,8 +41,8 @@ loop-again c =
     let c₃ = c₂ .before in
     loop-refused _ _ _ _ _ _ (c₃ .loop .inv) (c₂ .loop-test .taken) _ (c₁ .is-refused .ensures) (c .if1 .taken)
 
-place-of-requires : tie.Need-place-of-requires Inv-loop μ-loop
-place-of-requires c κs =
+index-of-requires : tie.Need-index-of-requires Inv-loop μ-loop
+index-of-requires c κs =
     let c₁ = c .before in
     let c₂ = c₁ .before .before .before in
     let c₃ = c₂ .before .before .before in
@@ -53,16 +53,16 @@ place-of-requires c κs =
     few-tickets _ t (free .0) fit
 
 mul-list : tie.Need-mul-list Inv-loop μ-loop
-mul-list c = search (c .place-of .ensures .1, needs)
+mul-list c = search (c .index-of .ensures .1, needs)
 
 element-copy-out-list : tie.Need-element-copy-out-list Inv-loop μ-loop
-element-copy-out-list c = search (c .place-of .ensures .1, needs)
+element-copy-out-list c = search (c .index-of .ensures .1, needs)
 
 slot-of-requires : tie.Need-slot-of-requires Inv-loop μ-loop
-slot-of-requires c κs = c .before .place-of .ensures .1
+slot-of-requires c κs = c .before .index-of .ensures .1
 
 slot-of-requires-2 : tie.Need-slot-of-requires-2 Inv-loop μ-loop
-slot-of-requires-2 c κs = c .before .before .place-of .ensures .1
+slot-of-requires-2 c κs = c .before .before .index-of .ensures .1
 
 mul-here : tie.Need-mul-here Inv-loop μ-loop
 mul-here c = search (c .before .slot-of .ensures .1, needs)
@@ -71,25 +71,25 @@ element-copy-out-here : tie.Need-element-copy-out-here Inv-loop μ-loop
 element-copy-out-here c = search (c .before .slot-of .ensures .1, needs)
 
 mul-held : tie.Need-mul-held Inv-loop μ-loop
-mul-held c = search (c .before .before .before .before .place-of .ensures .1, needs)
+mul-held c = search (c .before .before .before .before .index-of .ensures .1, needs)
 
 element-copy-out-held : tie.Need-element-copy-out-held Inv-loop μ-loop
-element-copy-out-held c = search (c .before .before .before .before .place-of .ensures .1, needs)
+element-copy-out-held c = search (c .before .before .before .before .index-of .ensures .1, needs)
 
 mul-own-of : tie.Need-mul-own-of Inv-loop μ-loop
-mul-own-of c = search (c .before .before .before .before .before .place-of .ensures .1, needs)
+mul-own-of c = search (c .before .before .before .before .before .index-of .ensures .1, needs)
 
 element-copy-out-own-of : tie.Need-element-copy-out-own-of Inv-loop μ-loop
-element-copy-out-own-of c = search (c .before .before .before .before .before .place-of .ensures .1, needs)
+element-copy-out-own-of c = search (c .before .before .before .before .before .index-of .ensures .1, needs)
 
 element-copy-out-own-of-2 : tie.Need-element-copy-out-own-of-2 Inv-loop μ-loop
-element-copy-out-own-of-2 c = search (c .before .before .before .before .before .before .place-of .ensures .1, needs)
+element-copy-out-own-of-2 c = search (c .before .before .before .before .before .before .index-of .ensures .1, needs)
 
 mul-own-of-2 : tie.Need-mul-own-of-2 Inv-loop μ-loop
-mul-own-of-2 c = search (c .before .before .before .before .before .before .before .place-of .ensures .1, needs)
+mul-own-of-2 c = search (c .before .before .before .before .before .before .before .index-of .ensures .1, needs)
 
 element-copy-out-own-of-3 : tie.Need-element-copy-out-own-of-3 Inv-loop μ-loop
-element-copy-out-own-of-3 c = search (c .before .before .before .before .before .before .before .place-of .ensures .1, needs)
+element-copy-out-own-of-3 c = search (c .before .before .before .before .before .before .before .index-of .ensures .1, needs)
 
 own-of-requires : tie.Need-own-of-requires Inv-loop μ-loop
 own-of-requires c κs = search needs
@@ -98,16 +98,16 @@ around-of-requires : tie.Need-around-of-requires Inv-loop μ-loop
 around-of-requires c κs = search needs
 
 mul-program-step : tie.Need-mul-program-step Inv-loop μ-loop
-mul-program-step c = search (c .before .before .before .before .before .before .before .before .before .before .before .before .before .place-of .ensures .1, needs)
+mul-program-step c = search (c .before .before .before .before .before .before .before .before .before .before .before .before .before .index-of .ensures .1, needs)
 
 element-copy-out-program-step : tie.Need-element-copy-out-program-step Inv-loop μ-loop
-element-copy-out-program-step c = search (c .before .before .before .before .before .before .before .before .before .before .before .before .before .place-of .ensures .1, needs)
+element-copy-out-program-step c = search (c .before .before .before .before .before .before .before .before .before .before .before .before .before .index-of .ensures .1, needs)
 
 mul-program-step-2 : tie.Need-mul-program-step-2 Inv-loop μ-loop
-mul-program-step-2 c = search (c .before .before .before .before .before .before .before .before .before .before .before .before .before .before .place-of .ensures .1, needs)
+mul-program-step-2 c = search (c .before .before .before .before .before .before .before .before .before .before .before .before .before .before .index-of .ensures .1, needs)
 
 element-copy-out-program-step-2 : tie.Need-element-copy-out-program-step-2 Inv-loop μ-loop
-element-copy-out-program-step-2 c = search (c .before .before .before .before .before .before .before .before .before .before .before .before .before .before .place-of .ensures .1, needs)
+element-copy-out-program-step-2 c = search (c .before .before .before .before .before .before .before .before .before .before .before .before .before .before .index-of .ensures .1, needs)
 
 program-step-requires : tie.Need-program-step-requires Inv-loop μ-loop
 program-step-requires c κs =
@@ -120,7 +120,7 @@ program-step-requires c κs =
     let t = getD (c₅ .args .tickets .now) (c₄ .loop .k) 0 in
     let free = not-refused _ (c₄ .loop .b .count) t _ (c₃ .is-refused .ensures) (c₂ .if1 .left) in
     let fit = sym (g .fitting) ∙ free .1 in
-    standing _ t (free .0) fit _ (c₁ .place-of .ensures .0)
+    standing _ t (free .0) fit _ (c₁ .index-of .ensures .0)
 
 cell-read-requires : tie.Need-cell-read-requires Inv-loop μ-loop
 cell-read-requires c κs = steps-cells _ _ _ (c .program-step .ensures)
@@ -152,7 +152,7 @@ take-own-requires c κs =
     let t = getD (c₉ .args .tickets .now) (c₈ .loop .k) 0 in
     let free = not-refused _ (c₈ .loop .b .count) t _ (c₇ .is-refused .ensures) (c₆ .if1 .left) in
     let fit = sym (g .fitting) ∙ free .1 in
-    ready _ t (free .0) fit (g .long) _ _ _ (c₅ .place-of .ensures .0) (c₄ .slot-of .ensures .0) (c₃ .slot-of2 .ensures .0) _ _ (c₂ .own-of .ensures)
+    ready _ t (free .0) fit (g .long) _ _ _ (c₅ .index-of .ensures .0) (c₄ .slot-of .ensures .0) (c₃ .slot-of2 .ensures .0) _ _ (c₂ .own-of .ensures)
     (c₁ .around-of .ensures)
 
 byte-after-requires : tie.Need-byte-after-requires Inv-loop μ-loop
@@ -162,31 +162,31 @@ slice-write-words-2 : tie.Need-slice-write-words-2 Inv-loop μ-loop
 slice-write-words-2 c = search (c .before .before .before .before .before .before .before .before .before .before .before .before .before .before .before .before .before .before .before .before .before .before .before .before .before .before .before .before .before .before .before .before .loop .inv .going .room, c .before .before .before .before .before .before .before .before .before .before .before .before .before .before .before .before .before .before .before .before .before .before .before .before .before .before .before .before .before .before .before .loop-test .taken, needs)
 
 mul-state : tie.Need-mul-state Inv-loop μ-loop
-mul-state c = search (c .before .before .before .before .before .before .before .before .before .before .before .before .before .before .before .before .before .before .before .before .before .before .before .before .before .before .before .place-of .ensures .1, needs)
+mul-state c = search (c .before .before .before .before .before .before .before .before .before .before .before .before .before .before .before .before .before .before .before .before .before .before .before .before .before .before .before .index-of .ensures .1, needs)
 
 element-set-from-state : tie.Need-element-set-from-state Inv-loop μ-loop
-element-set-from-state c = search (c .before .before .before .before .before .before .before .before .before .before .before .before .before .before .before .before .before .before .before .before .before .before .before .before .before .before .before .place-of .ensures .1, needs)
+element-set-from-state c = search (c .before .before .before .before .before .before .before .before .before .before .before .before .before .before .before .before .before .before .before .before .before .before .before .before .before .before .before .index-of .ensures .1, needs)
 
 element-write-b : tie.Need-element-write-b Inv-loop μ-loop
-element-write-b c = search (c .before .before .before .before .before .before .before .before .before .before .before .before .before .before .before .before .before .before .before .before .before .before .before .before .before .before .before .place-of .ensures .1, needs)
+element-write-b c = search (c .before .before .before .before .before .before .before .before .before .before .before .before .before .before .before .before .before .before .before .before .before .before .before .before .before .before .before .index-of .ensures .1, needs)
 
 mul-journal : tie.Need-mul-journal Inv-loop μ-loop
-mul-journal c = search (c .before .before .before .before .before .before .before .before .before .before .before .before .before .before .before .before .before .before .before .before .before .before .before .before .before .before .before .place-of .ensures .1, needs)
+mul-journal c = search (c .before .before .before .before .before .before .before .before .before .before .before .before .before .before .before .before .before .before .before .before .before .before .before .before .before .before .before .index-of .ensures .1, needs)
 
 element-set-from-journal : tie.Need-element-set-from-journal Inv-loop μ-loop
-element-set-from-journal c = search (c .before .before .before .before .before .before .before .before .before .before .before .before .before .before .before .before .before .before .before .before .before .before .before .before .before .before .before .place-of .ensures .1, needs)
+element-set-from-journal c = search (c .before .before .before .before .before .before .before .before .before .before .before .before .before .before .before .before .before .before .before .before .before .before .before .before .before .before .before .index-of .ensures .1, needs)
 
 mul-versions : tie.Need-mul-versions Inv-loop μ-loop
-mul-versions c = search (c .before .before .before .before .before .before .before .before .before .before .before .before .before .before .before .before .before .before .before .before .before .before .before .before .before .before .before .place-of .ensures .1, needs)
+mul-versions c = search (c .before .before .before .before .before .before .before .before .before .before .before .before .before .before .before .before .before .before .before .before .before .before .before .before .before .before .before .index-of .ensures .1, needs)
 
 element-set-from-versions : tie.Need-element-set-from-versions Inv-loop μ-loop
-element-set-from-versions c = search (c .before .before .before .before .before .before .before .before .before .before .before .before .before .before .before .before .before .before .before .before .before .before .before .before .before .before .before .place-of .ensures .1, needs)
+element-set-from-versions c = search (c .before .before .before .before .before .before .before .before .before .before .before .before .before .before .before .before .before .before .before .before .before .before .before .before .before .before .before .index-of .ensures .1, needs)
 
 mul-reads : tie.Need-mul-reads Inv-loop μ-loop
-mul-reads c = search (c .before .before .before .before .before .before .before .before .before .before .before .before .before .before .before .before .before .before .before .before .before .before .before .before .before .before .before .place-of .ensures .1, needs)
+mul-reads c = search (c .before .before .before .before .before .before .before .before .before .before .before .before .before .before .before .before .before .before .before .before .before .before .before .before .before .before .before .index-of .ensures .1, needs)
 
 element-set-from-reads : tie.Need-element-set-from-reads Inv-loop μ-loop
-element-set-from-reads c = search (c .before .before .before .before .before .before .before .before .before .before .before .before .before .before .before .before .before .before .before .before .before .before .before .before .before .before .before .place-of .ensures .1, needs)
+element-set-from-reads c = search (c .before .before .before .before .before .before .before .before .before .before .before .before .before .before .before .before .before .before .before .before .before .before .before .before .before .before .before .index-of .ensures .1, needs)
 
 mul-saved : tie.Need-mul-saved Inv-loop μ-loop
 mul-saved c = search (c .before .before .before .before .before .before .before .before .before .before .before .before .before .before .before .before .before .before .before .before .before .before .before .before .before .slot-of .ensures .1, needs)
@@ -220,7 +220,7 @@ mark-above-requires c κs =
     let t = getD (c₁₄ .args .tickets .now) (c₁₃ .loop .k) 0 in
     let free = not-refused _ (c₁₃ .loop .b .count) t _ (c₁₂ .is-refused .ensures) (c₁₁ .if1 .left) in
     let fit = sym (g .fitting) ∙ free .1 in
-    may-mark _ t (free .0) fit (g .long) _ _ _ (c₁₀ .place-of .ensures .0) (c₉ .slot-of .ensures .0) (c₈ .slot-of2 .ensures .0) _ _ (c₇ .own-of .ensures)
+    may-mark _ t (free .0) fit (g .long) _ _ _ (c₁₀ .index-of .ensures .0) (c₉ .slot-of .ensures .0) (c₈ .slot-of2 .ensures .0) _ _ (c₇ .own-of .ensures)
     (c₆ .around-of .ensures) _ (c₅ .program-step .ensures) _ (c₄ .cell-read .ensures) _ (c₃ .take-own .ensures) (c₂ .if2 .taken) _ _ (c₁ .shows-of .ensures) (c .shows-of2 .ensures)
 
 loop-less-2 : tie.Need-loop-less-2 Inv-loop μ-loop
@@ -250,10 +250,10 @@ loop-again-2 c =
     let free = not-refused _ (c₁₆ .loop .b .count) t _ (c₁₄ .is-refused .ensures) (c₁₃ .if1 .left) in
     let fit = sym (g .fitting) ∙ free .1 in
     loop-taken _ _ _ _ _ _ g (c₁₅ .loop-test .taken) _ _ (free .1)
-    (stored-turn _ t (free .0) fit (g .long) _ _ _ (c₁₂ .place-of .ensures .0) (c₁₁ .slot-of .ensures .0) (c₁₀ .slot-of2 .ensures .0) _ _ (c₉ .own-of .ensures)
+    (stored-turn _ t (free .0) fit (g .long) _ _ _ (c₁₂ .index-of .ensures .0) (c₁₁ .slot-of .ensures .0) (c₁₀ .slot-of2 .ensures .0) _ _ (c₉ .own-of .ensures)
     (c₈ .around-of .ensures) _ (c₇ .program-step .ensures) _ (c₆ .cell-read .ensures) _ (c₅ .take-own .ensures) _
     (marked-by _ _ _ _ _ _ _ _ _ (c₃ .if2 .taken) (c₂ .shows-of .ensures) (c₁ .shows-of2 .ensures) (c .mark-above .ensures)))
-    (stored-long _ t (free .0) fit (g .long) _ _ _ (c₁₂ .place-of .ensures .0) (c₁₁ .slot-of .ensures .0) (c₁₀ .slot-of2 .ensures .0) _ _ (c₉ .own-of .ensures)
+    (stored-long _ t (free .0) fit (g .long) _ _ _ (c₁₂ .index-of .ensures .0) (c₁₁ .slot-of .ensures .0) (c₁₀ .slot-of2 .ensures .0) _ _ (c₉ .own-of .ensures)
     (c₈ .around-of .ensures) _ (c₇ .program-step .ensures) _ (c₆ .cell-read .ensures) _ (c₅ .take-own .ensures) _
     (marked-by _ _ _ _ _ _ _ _ _ (c₃ .if2 .taken) (c₂ .shows-of .ensures) (c₁ .shows-of2 .ensures) (c .mark-above .ensures)))
     (c₄ .byte-after .ensures)
@@ -282,9 +282,9 @@ loop-again-3 c =
     let free = not-refused _ (c₁₃ .loop .b .count) t _ (c₁₁ .is-refused .ensures) (c₁₀ .if1 .left) in
     let fit = sym (g .fitting) ∙ free .1 in
     loop-taken _ _ _ _ _ _ g (c₁₂ .loop-test .taken) _ _ (free .1)
-    (stored-turn _ t (free .0) fit (g .long) _ _ _ (c₉ .place-of .ensures .0) (c₈ .slot-of .ensures .0) (c₇ .slot-of2 .ensures .0) _ _ (c₆ .own-of .ensures)
+    (stored-turn _ t (free .0) fit (g .long) _ _ _ (c₉ .index-of .ensures .0) (c₈ .slot-of .ensures .0) (c₇ .slot-of2 .ensures .0) _ _ (c₆ .own-of .ensures)
     (c₅ .around-of .ensures) _ (c₄ .program-step .ensures) _ (c₃ .cell-read .ensures) _ (c₂ .take-own .ensures) _ (unmarked-by _ _ _ _ _ _ (c .if2 .left)))
-    (stored-long _ t (free .0) fit (g .long) _ _ _ (c₉ .place-of .ensures .0) (c₈ .slot-of .ensures .0) (c₇ .slot-of2 .ensures .0) _ _ (c₆ .own-of .ensures)
+    (stored-long _ t (free .0) fit (g .long) _ _ _ (c₉ .index-of .ensures .0) (c₈ .slot-of .ensures .0) (c₇ .slot-of2 .ensures .0) _ _ (c₆ .own-of .ensures)
     (c₅ .around-of .ensures) _ (c₄ .program-step .ensures) _ (c₃ .cell-read .ensures) _ (c₂ .take-own .ensures) _ (unmarked-by _ _ _ _ _ _ (c .if2 .left)))
     (c₁ .byte-after .ensures)
 
@@ -307,7 +307,7 @@ take-all-spec =
     slice-write-words
     loop-less
     loop-again
-    place-of-requires
+    index-of-requires
     mul-list
     element-copy-out-list
     slot-of-requires

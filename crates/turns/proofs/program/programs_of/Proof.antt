@@ -17,7 +17,7 @@ stops-requires : tie.Need-stops-requires Inv-loop μ-loop
 stops-requires c κs = search needs
 
 loop-holds : tie.Need-loop-holds Inv-loop μ-loop
-loop-holds c = packs-start _ _ _ (search (array-laws, needs))
+loop-holds c = packs-start _ _ _ (c .stops .ensures)
 
 cast-at : tie.Need-cast-at Inv-loop μ-loop
 cast-at c = search (array-laws, c .before .before .before .pre .0, c .loop-test .taken, needs)

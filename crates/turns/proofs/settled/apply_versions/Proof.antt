@@ -20,14 +20,14 @@ abbrev μ-loop : tie.MeasureT-loop
 loop-holds : tie.Need-loop-holds Inv-loop μ-loop
 loop-holds c = search (shows-laws, needs)
 
-sub-place : tie.Need-sub-place Inv-loop μ-loop
-sub-place c = search (shows-laws, needs)
+sub-number : tie.Need-sub-number Inv-loop μ-loop
+sub-number c = search (shows-laws, needs)
 
-cast-place : tie.Need-cast-place Inv-loop μ-loop
-cast-place c = search (shows-laws, needs)
+cast-number : tie.Need-cast-number Inv-loop μ-loop
+cast-number c = search (shows-laws, needs)
 
-element-copy-out-place : tie.Need-element-copy-out-place Inv-loop μ-loop
-element-copy-out-place c = search (shows-laws, needs)
+element-copy-out-number : tie.Need-element-copy-out-number Inv-loop μ-loop
+element-copy-out-number c = search (shows-laws, needs)
 
 entry-at-requires : tie.Need-entry-at-requires Inv-loop μ-loop
 entry-at-requires c κs = search (shows-laws, needs)
@@ -63,9 +63,9 @@ apply-versions-spec =
     Inv-loop
     μ-loop
     loop-holds
-    sub-place
-    cast-place
-    element-copy-out-place
+    sub-number
+    cast-number
+    element-copy-out-number
     entry-at-requires
     cast-at
     mul-table

@@ -16,16 +16,16 @@ loop-holds : tie.Need-loop-holds Inv-loop μ-loop
 loop-holds c = next-start
 
 add-next : tie.Need-add-next Inv-loop μ-loop
-add-next c = search (c .loop-test .taken, c .before .loop .inv .long, needs)
+add-next c = search (c .loop-test .taken, c .before .loop .inv .filling .long, needs)
 
 cast-all : tie.Need-cast-all Inv-loop μ-loop
-cast-all c = search (c .loop-test .taken, c .before .loop .inv .long, needs)
+cast-all c = search (c .loop-test .taken, c .before .loop .inv .filling .long, needs)
 
 array-write-all : tie.Need-array-write-all Inv-loop μ-loop
-array-write-all c = search (c .loop-test .taken, c .before .loop .inv .long, needs)
+array-write-all c = search (c .loop-test .taken, c .before .loop .inv .filling .long, needs)
 
 loop-less : tie.Need-loop-less Inv-loop μ-loop
-loop-less c = search (c .loop-test .taken, c .before .loop .inv .long, needs)
+loop-less c = search (c .loop-test .taken, c .before .loop .inv .filling .long, needs)
 
 loop-again : tie.Need-loop-again Inv-loop μ-loop
 loop-again c = next-on _ _ (c .before .loop .inv) (c .loop-test .taken)

@@ -162,20 +162,20 @@ loop-again c =
 is-refused-requires : tie.Need-is-refused-requires Inv-loop μ-loop
 is-refused-requires c κs = search needs
 
-place-in-requires : tie.Need-place-in-requires Inv-loop μ-loop
-place-in-requires c κs =
+index-in-requires : tie.Need-index-in-requires Inv-loop μ-loop
+index-in-requires c κs =
     let c₁ = c .before in
     let c₂ = c₁ .before in
     few-if _ _ _ (test-end _ _ _ _ (c₂ .loop .inv .0) (search (c₁ .loop-test .left, needs))) _ (c .is-refused .ensures)
 
 mul-list-2 : tie.Need-mul-list-2 Inv-loop μ-loop
-mul-list-2 c = search (array-laws, c .place-in .ensures .1, needs)
+mul-list-2 c = search (array-laws, c .index-in .ensures .1, needs)
 
 element-copy-out-list-2 : tie.Need-element-copy-out-list-2 Inv-loop μ-loop
-element-copy-out-list-2 c = search (array-laws, c .place-in .ensures .1, needs)
+element-copy-out-list-2 c = search (array-laws, c .index-in .ensures .1, needs)
 
 slot-of-requires : tie.Need-slot-of-requires Inv-loop μ-loop
-slot-of-requires c κs = c .before .place-in .ensures .1
+slot-of-requires c κs = c .before .index-in .ensures .1
 
 mul-here : tie.Need-mul-here Inv-loop μ-loop
 mul-here c = search (array-laws, c .slot-of .ensures .1, needs)
@@ -184,25 +184,25 @@ element-copy-out-here : tie.Need-element-copy-out-here Inv-loop μ-loop
 element-copy-out-here c = search (array-laws, c .slot-of .ensures .1, needs)
 
 mul-held-2 : tie.Need-mul-held-2 Inv-loop μ-loop
-mul-held-2 c = search (array-laws, c .before .before .before .place-in .ensures .1, needs)
+mul-held-2 c = search (array-laws, c .before .before .before .index-in .ensures .1, needs)
 
 element-copy-out-held-2 : tie.Need-element-copy-out-held-2 Inv-loop μ-loop
-element-copy-out-held-2 c = search (array-laws, c .before .before .before .place-in .ensures .1, needs)
+element-copy-out-held-2 c = search (array-laws, c .before .before .before .index-in .ensures .1, needs)
 
 mul-own-of : tie.Need-mul-own-of Inv-loop μ-loop
-mul-own-of c = search (array-laws, c .before .before .before .before .place-in .ensures .1, needs)
+mul-own-of c = search (array-laws, c .before .before .before .before .index-in .ensures .1, needs)
 
 element-copy-out-own-of : tie.Need-element-copy-out-own-of Inv-loop μ-loop
-element-copy-out-own-of c = search (array-laws, c .before .before .before .before .place-in .ensures .1, needs)
+element-copy-out-own-of c = search (array-laws, c .before .before .before .before .index-in .ensures .1, needs)
 
 element-copy-out-own-of-2 : tie.Need-element-copy-out-own-of-2 Inv-loop μ-loop
-element-copy-out-own-of-2 c = search (array-laws, c .before .before .before .before .before .place-in .ensures .1, needs)
+element-copy-out-own-of-2 c = search (array-laws, c .before .before .before .before .before .index-in .ensures .1, needs)
 
 mul-own-of-2 : tie.Need-mul-own-of-2 Inv-loop μ-loop
-mul-own-of-2 c = search (array-laws, c .before .before .before .before .before .before .place-in .ensures .1, needs)
+mul-own-of-2 c = search (array-laws, c .before .before .before .before .before .before .index-in .ensures .1, needs)
 
 element-copy-out-own-of-3 : tie.Need-element-copy-out-own-of-3 Inv-loop μ-loop
-element-copy-out-own-of-3 c = search (array-laws, c .before .before .before .before .before .before .place-in .ensures .1, needs)
+element-copy-out-own-of-3 c = search (array-laws, c .before .before .before .before .before .before .index-in .ensures .1, needs)
 
 own-of-requires : tie.Need-own-of-requires Inv-loop μ-loop
 own-of-requires c κs = search needs
@@ -211,16 +211,16 @@ around-of-requires : tie.Need-around-of-requires Inv-loop μ-loop
 around-of-requires c κs = search needs
 
 mul-next-step : tie.Need-mul-next-step Inv-loop μ-loop
-mul-next-step c = search (array-laws, c .before .before .before .before .before .before .before .before .before .before .before .before .before .place-in .ensures .1, needs)
+mul-next-step c = search (array-laws, c .before .before .before .before .before .before .before .before .before .before .before .before .before .index-in .ensures .1, needs)
 
 element-copy-out-next-step : tie.Need-element-copy-out-next-step Inv-loop μ-loop
-element-copy-out-next-step c = search (array-laws, c .before .before .before .before .before .before .before .before .before .before .before .before .before .place-in .ensures .1, needs)
+element-copy-out-next-step c = search (array-laws, c .before .before .before .before .before .before .before .before .before .before .before .before .before .index-in .ensures .1, needs)
 
 mul-next-step-2 : tie.Need-mul-next-step-2 Inv-loop μ-loop
-mul-next-step-2 c = search (array-laws, c .before .before .before .before .before .before .before .before .before .before .before .before .before .before .place-in .ensures .1, needs)
+mul-next-step-2 c = search (array-laws, c .before .before .before .before .before .before .before .before .before .before .before .before .before .before .index-in .ensures .1, needs)
 
 element-copy-out-next-step-2 : tie.Need-element-copy-out-next-step-2 Inv-loop μ-loop
-element-copy-out-next-step-2 c = search (array-laws, c .before .before .before .before .before .before .before .before .before .before .before .before .before .before .place-in .ensures .1, needs)
+element-copy-out-next-step-2 c = search (array-laws, c .before .before .before .before .before .before .before .before .before .before .before .before .before .before .index-in .ensures .1, needs)
 
 next-step-requires : tie.Need-next-step-requires Inv-loop μ-loop
 next-step-requires c κs =
@@ -228,7 +228,7 @@ next-step-requires c κs =
     let c₂ = c₁ .before in
     let c₃ = c₂ .before in
     let c₄ = c₃ .before in
-    standing-if _ _ _ (test-end _ _ _ _ (c₄ .loop .inv .0) (search (c₃ .loop-test .left, needs))) _ (c₂ .is-refused .ensures) _ (c₁ .place-in .ensures .0)
+    standing-if _ _ _ (test-end _ _ _ _ (c₄ .loop .inv .0) (search (c₃ .loop-test .left, needs))) _ (c₂ .is-refused .ensures) _ (c₁ .index-in .ensures .0)
 
 cell-read-requires : tie.Need-cell-read-requires Inv-loop μ-loop
 cell-read-requires c κs = c .next-step .ensures .cells
@@ -240,7 +240,7 @@ element-copy-out-first : tie.Need-element-copy-out-first Inv-loop μ-loop
 element-copy-out-first c = search (array-laws, c .cell-read .ensures .low, needs)
 
 slot-of-requires-2 : tie.Need-slot-of-requires-2 Inv-loop μ-loop
-slot-of-requires-2 c κs = c .before .before .before .before .before .before .before .before .before .before .before .before .before .before .before .before .before .before .place-in .ensures .1
+slot-of-requires-2 c κs = c .before .before .before .before .before .before .before .before .before .before .before .before .before .before .before .before .before .before .index-in .ensures .1
 
 mul-back : tie.Need-mul-back Inv-loop μ-loop
 mul-back c = search (array-laws, c .slot-of2 .ensures .1, needs)
@@ -265,7 +265,7 @@ take-or-refuse-requires c κs =
     let c₇ = c₆ .before in
     let c₈ = c₇ .before in
     ready-if _ _ _ (test-end _ _ _ _ (c₈ .loop .inv .0) (search (c₇ .loop-test .left, needs))) _ (c₆ .is-refused .ensures)
-    (c₈ .loop .inv .1) _ _ _ (c₅ .place-in .ensures .0) (c₄ .slot-of .ensures .0) (c₁ .slot-of2 .ensures .0) _ _ (c₃ .own-of .ensures) (c₂ .around-of .ensures)
+    (c₈ .loop .inv .1) _ _ _ (c₅ .index-in .ensures .0) (c₄ .slot-of .ensures .0) (c₁ .slot-of2 .ensures .0) _ _ (c₃ .own-of .ensures) (c₂ .around-of .ensures)
 
 change-by-requires : tie.Need-change-by-requires Inv-loop μ-loop
 change-by-requires c κs =
@@ -281,9 +281,9 @@ change-by-requires c κs =
     let c₁₀ = c₉ .before in
     let c₁₁ = c₁₀ .before in
     let c₁₂ = c₁₁ .before in (
-      c₉ .place-in .ensures .1,
+      c₉ .index-in .ensures .1,
       may-mark-if _ _ _ (test-end _ _ _ _ (c₁₂ .loop .inv .0) (search (c₁₁ .loop-test .left, needs))) _ (c₁₀ .is-refused .ensures)
-          (c₁₂ .loop .inv .1) _ _ _ (c₉ .place-in .ensures .0) (c₈ .slot-of .ensures .0) (c₃ .slot-of2 .ensures .0) _ _ (c₇ .own-of .ensures) (c₆ .around-of .ensures)
+          (c₁₂ .loop .inv .1) _ _ _ (c₉ .index-in .ensures .0) (c₈ .slot-of .ensures .0) (c₃ .slot-of2 .ensures .0) _ _ (c₇ .own-of .ensures) (c₆ .around-of .ensures)
           _ (c₅ .next-step .ensures) _ (c₄ .cell-read .ensures) _ (c₁ .refusal .ensures ∙ ap refusing (c₂ .is-foreign .ensures)) _ (c .take-or-refuse .ensures),
     )
 
@@ -303,9 +303,9 @@ returns c =
     let c₁₂ = c₁₁ .before in
     let c₁₃ = c₁₂ .before in
     changes-if _ _ _ (test-end _ _ _ _ (c₁₃ .loop .inv .0) (search (c₁₂ .loop-test .left, needs))) _ (c₁₁ .is-refused .ensures)
-    (c₁₃ .loop .inv .1) _ _ _ (c₁₀ .place-in .ensures .0) (c₉ .slot-of .ensures .0) (c₄ .slot-of2 .ensures .0) _ _ (c₈ .own-of .ensures) (c₇ .around-of .ensures)
+    (c₁₃ .loop .inv .1) _ _ _ (c₁₀ .index-in .ensures .0) (c₉ .slot-of .ensures .0) (c₄ .slot-of2 .ensures .0) _ _ (c₈ .own-of .ensures) (c₇ .around-of .ensures)
     _ (c₆ .next-step .ensures) _ (c₅ .cell-read .ensures) _ (c₂ .refusal .ensures ∙ ap refusing (c₃ .is-foreign .ensures)) _ (c₁ .take-or-refuse .ensures)
-    (c₁₀ .place-in .ensures .1) (c₉ .slot-of .ensures .1) _ (c .change-by .ensures)
+    (c₁₀ .index-in .ensures .1) (c₉ .slot-of .ensures .1) _ (c .change-by .ensures)
 
 pub change-of-spec : {M : Type 1} → statement M
 change-of-spec =
@@ -356,7 +356,7 @@ change-of-spec =
     loop-less
     loop-again
     is-refused-requires
-    place-in-requires
+    index-in-requires
     mul-list-2
     element-copy-out-list-2
     slot-of-requires

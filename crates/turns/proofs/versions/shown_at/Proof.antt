@@ -19,11 +19,11 @@ abbrev μ-loop : tie.MeasureT-loop
 loop-holds : tie.Need-loop-holds Inv-loop μ-loop
 loop-holds c = search (shown-laws, needs)
 
-cast-place : tie.Need-cast-place Inv-loop μ-loop
-cast-place c = search (shown-laws, needs)
+cast-number : tie.Need-cast-number Inv-loop μ-loop
+cast-number c = search (shown-laws, needs)
 
-element-copy-out-place : tie.Need-element-copy-out-place Inv-loop μ-loop
-element-copy-out-place c = search (shown-laws, needs)
+element-copy-out-number : tie.Need-element-copy-out-number Inv-loop μ-loop
+element-copy-out-number c = search (shown-laws, needs)
 
 entry-at-requires : tie.Need-entry-at-requires Inv-loop μ-loop
 entry-at-requires c κs = (search needs, search (shown-named, needs))
@@ -50,8 +50,8 @@ shown-at-spec =
     Inv-loop
     μ-loop
     loop-holds
-    cast-place
-    element-copy-out-place
+    cast-number
+    element-copy-out-number
     entry-at-requires
     returns
     add-k

@@ -23,11 +23,11 @@ no-versions-requires c κs = search (withdraw-laws, needs)
 loop-holds : tie.Need-loop-holds Inv-loop μ-loop
 loop-holds c = search (withdraw-laws, needs)
 
-cast-place : tie.Need-cast-place Inv-loop μ-loop
-cast-place c = search (withdraw-laws, needs)
+cast-number : tie.Need-cast-number Inv-loop μ-loop
+cast-number c = search (withdraw-laws, needs)
 
-element-copy-out-place : tie.Need-element-copy-out-place Inv-loop μ-loop
-element-copy-out-place c = search (withdraw-laws, needs)
+element-copy-out-number : tie.Need-element-copy-out-number Inv-loop μ-loop
+element-copy-out-number c = search (withdraw-laws, needs)
 
 with-kept-requires : tie.Need-with-kept-requires Inv-loop μ-loop
 with-kept-requires c κs = search (withdraw-laws, needs)
@@ -52,8 +52,8 @@ withdraw-spec =
     μ-loop
     no-versions-requires
     loop-holds
-    cast-place
-    element-copy-out-place
+    cast-number
+    element-copy-out-number
     with-kept-requires
     add-k
     loop-less

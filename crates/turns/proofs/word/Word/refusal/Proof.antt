@@ -1,10 +1,10 @@
--- Each word has its byte,
+-- Each word has its number,
 -- case by case.
 use borrow.Author.Needs.{needs}
-use Rattle.turns.proofs.Laws.Many.{byte-laws}
-use borrow.Author.Needs.{needs}
-use Rattle.turns.proofs.many.byte_of.Statement.{statement}
-use Rattle.turns.proofs.many.byte_of.Tie as tie
+use Rattle.theory.specs.Word.{refusal}
+use Rattle.turns.specs.Turn.{wordOf}
+use Rattle.turns.proofs.word.Word.refusal.Statement.{statement}
+use Rattle.turns.proofs.word.Word.refusal.Tie as tie
 
 enum-told : tie.Need-enum-told
 enum-told c = search needs
@@ -31,31 +31,39 @@ enum-told-8 : tie.Need-enum-told-8
 enum-told-8 c = search needs
 
 returns : tie.Need-returns
-returns c = search (byte-laws, needs)
+unfolding refusal wordOf
+returns c = search needs
 
 returns-2 : tie.Need-returns-2
-returns-2 c = search (byte-laws, needs)
+unfolding refusal wordOf
+returns-2 c = search needs
 
 returns-3 : tie.Need-returns-3
-returns-3 c = search (byte-laws, needs)
+unfolding refusal wordOf
+returns-3 c = search needs
 
 returns-4 : tie.Need-returns-4
-returns-4 c = search (byte-laws, needs)
+unfolding refusal wordOf
+returns-4 c = search needs
 
 returns-5 : tie.Need-returns-5
-returns-5 c = search (byte-laws, needs)
+unfolding refusal wordOf
+returns-5 c = search needs
 
 returns-6 : tie.Need-returns-6
-returns-6 c = search (byte-laws, needs)
+unfolding refusal wordOf
+returns-6 c = search needs
 
 returns-7 : tie.Need-returns-7
-returns-7 c = search (byte-laws, needs)
+unfolding refusal wordOf
+returns-7 c = search needs
 
 returns-8 : tie.Need-returns-8
-returns-8 c = search (byte-laws, needs)
+unfolding refusal wordOf
+returns-8 c = search needs
 
-pub byte-of-spec : {M : Type 1} → statement M
-byte-of-spec =
+pub refusal-spec : {M : Type 1} → statement M
+refusal-spec =
     tie.close
     (tie.spec
     enum-told
