@@ -19,6 +19,9 @@ struct copies {
 
 static struct copies counted;
 
+/* What the calls refused, put together: nothing, or the counts mean nothing. */
+static uint32_t refused;
+
 void *memcpy(void *to, const void *from, size_t length)
 {
     counted.whole += length >= GARVOLISH_BLOCK_SIZE;
@@ -43,7 +46,7 @@ static void report(const char *call, struct copies copies, size_t calls)
 static struct copies count_opening(struct garvolish_block *block, const struct session *session)
 {
     take_count();
-    garvolish_open(block, session->start, ENGINE_CELLS, session->paper, session->length);
+    refused |= garvolish_open(block, session->start, ENGINE_CELLS, session->paper, session->length);
     return take_count();
 }
 
@@ -55,20 +58,20 @@ static bool count_session(const struct session *session)
     uint64_t table[ENGINE_CELLS];
     report("an opening", count_opening(&block, session), 1);
     for (size_t index = 0; index < session->turns; index++)
-        garvolish_turn(&block, session->tickets[index]);
+        refused |= !garvolish_is_word(garvolish_turn(&block, session->tickets[index]));
     report("a turn", take_count(), session->turns);
     count_opening(&block, session);
-    garvolish_take_turns(&block, session->tickets, 0, words, 0);
+    refused |= garvolish_take_turns(&block, session->tickets, 0, words, 0);
     struct copies empty = take_count();
     report("an empty list", empty, 1);
-    garvolish_take_turns(&block, session->tickets, session->turns, words, session->turns);
+    refused |= garvolish_take_turns(&block, session->tickets, session->turns, words, session->turns);
     struct copies list = take_count();
     list.whole -= empty.whole;
     list.bytes -= empty.bytes;
     report("a turn of a list, less an empty list", list, session->turns);
     uint32_t answer = garvolish_settled(&block, table, ENGINE_CELLS);
     report("a settled table, all jobs final", take_count(), 1);
-    return garvolish_finals(answer) == ENGINE_JOBS;
+    return refused == 0 && garvolish_finals(answer) == ENGINE_JOBS;
 }
 
 int main(void)
@@ -80,6 +83,6 @@ int main(void)
     printf("%-44s %16s %16s\n", "", "copies of block", "bytes copied");
     if (count_session(&session))
         return 0;
-    fputs("copies: the block is not done\n", stderr);
+    fputs("copies: a call was refused, or the block is not done\n", stderr);
     return 1;
 }

@@ -61,14 +61,6 @@ static uint32_t open_block(struct garvolish_block *block)
     return garvolish_open(block, start, GARVOLISH_CELLS, paper, (size_t)(end - paper));
 }
 
-/* The turn's word; `none` for a turn that was refused. */
-static const char *word_of(uint32_t answer)
-{
-    static const char *const words[] = {"idle", "back", "step", "end", "final", "wait"};
-    unsigned word = garvolish_number(answer);
-    return word <= GARVOLISH_WAIT ? words[word] : "none";
-}
-
 /* Gives each ticket its turn, and prints the ticket, the word and f after it. */
 static void print_turns(struct garvolish_block *block)
 {
@@ -76,8 +68,8 @@ static void print_turns(struct garvolish_block *block)
     for (size_t turn = 0; turn < sizeof tickets; turn++) {
         uint32_t answer = garvolish_turn(block, tickets[turn]);
         /* f is the number of final jobs, and a job becomes final by one turn. */
-        f += garvolish_number(answer) == GARVOLISH_FINAL;
-        printf("%u %s %u\n", (unsigned)tickets[turn], word_of(answer), f);
+        f += answer == GARVOLISH_FINAL;
+        printf("%u %s %u\n", (unsigned)tickets[turn], garvolish_word_name(answer), f);
     }
 }
 
@@ -94,25 +86,30 @@ static uint32_t print_settled(const struct garvolish_block *block)
     return answer;
 }
 
-/* Prints a refusal, if the answer of an opening or of a settled table is one, and says whether it is. */
-static int is_refused(uint32_t answer)
+/* Says whether the answer of an opening or of a settled table is a refusal, and on standard error what it means. */
+static int is_refused(const char *what, uint32_t answer)
 {
     unsigned number = garvolish_number(answer);
-    if (number != 0) {
-        printf("refused %u %u %u\n", number, garvolish_field(answer), garvolish_place(answer));
+    if (number == 0) {
+        return 0;
     }
-    return number != 0;
+    fprintf(stderr, "session_s: %s: refused %u", what, number);
+    if (garvolish_field(answer) != 0) {
+        fprintf(stderr, ", job %u, place %u", garvolish_field(answer), garvolish_place(answer));
+    }
+    fprintf(stderr, ": %s\n", garvolish_meaning(number));
+    return 1;
 }
 
 int main(void)
 {
     /* Large for some stacks, so it stands outside of this one. */
     static struct garvolish_block block;
-    if (is_refused(open_block(&block))) {
+    if (is_refused("the opening", open_block(&block))) {
         return EXIT_FAILURE;
     }
     print_turns(&block);
-    if (is_refused(print_settled(&block))) {
+    if (is_refused("the settled table", print_settled(&block))) {
         return EXIT_FAILURE;
     }
     return fflush(stdout) == 0 ? EXIT_SUCCESS : EXIT_FAILURE;

@@ -1,42 +1,68 @@
-//! Finds the static library and has it linked.
+//! Finds the archive and has it linked.
 
 use std::env;
-use std::path::PathBuf;
-use std::process::ExitCode;
+use std::path::{Path, PathBuf};
+use std::process::{Command, ExitCode};
 
-/// Where `rt staticlib garvolish` leaves the library, seen from this package.
-const USUAL_FOLDER: &str = "../../target/staticlib";
 const LIBRARY: &str = "libgarvolish.a";
+/// Where tools/archive leaves it, seen from the top of the repository.
+const USUAL_FOLDER: &str = "target/staticlib";
+const WHAT_TO_DO: &str = "run 'tools/archive' at the top of the repository, \
+                          or name the folder of another archive in GARVOLISH_LIB";
 
 fn main() -> ExitCode {
     println!("cargo:rerun-if-env-changed=GARVOLISH_LIB");
-    // Elsewhere the package can be checked, and nothing that calls the library can be linked.
-    if env::var("CARGO_CFG_TARGET_ARCH").as_deref() != Ok("x86_64") {
-        println!("cargo:warning=the static library links on x86-64 only");
+    let processor = env::var("CARGO_CFG_TARGET_ARCH").unwrap_or_default();
+    if processor != "x86_64" {
+        println!(
+            "cargo:warning=there is no archive for {processor}, as the library is x86-64 code: \
+             this package can be checked here, but not linked, and its tests are ignored"
+        );
         return ExitCode::SUCCESS;
     }
-    let folder = folder();
-    let library = folder.join(LIBRARY);
-    println!("cargo:rerun-if-changed={}", library.display());
-    if !library.is_file() {
-        eprintln!(
-            "garvolish: there is no {}\n\
-             garvolish: run 'rt staticlib garvolish' at the top of the repository, \
-             or name the library's folder in GARVOLISH_LIB",
-            library.display()
-        );
-        return ExitCode::FAILURE;
+    match folder() {
+        Ok(folder) => {
+            println!("cargo:rerun-if-changed={}", folder.join(LIBRARY).display());
+            println!("cargo:rustc-link-search=native={}", folder.display());
+            println!("cargo:rustc-link-lib=static=garvolish");
+            ExitCode::SUCCESS
+        }
+        Err(fault) => {
+            eprintln!("garvolish: {fault}: {WHAT_TO_DO}");
+            ExitCode::FAILURE
+        }
     }
-    println!("cargo:rustc-link-search=native={}", folder.display());
-    println!("cargo:rustc-link-lib=static=garvolish");
-    ExitCode::SUCCESS
 }
 
 /// The folder that GARVOLISH_LIB names, or the usual one.
-fn folder() -> PathBuf {
+fn folder() -> Result<PathBuf, String> {
     let package = PathBuf::from(env::var_os("CARGO_MANIFEST_DIR").unwrap_or_default());
-    let named = env::var_os("GARVOLISH_LIB").filter(|name| !name.is_empty());
-    let folder = package.join(named.unwrap_or(USUAL_FOLDER.into()));
-    // A folder that is not there is told as it was named.
-    folder.canonicalize().unwrap_or(folder)
+    match env::var_os("GARVOLISH_LIB").filter(|name| !name.is_empty()) {
+        Some(named) => with_library(package.join(named)),
+        None => with_fresh_library(package.ancestors().nth(2).unwrap_or(&package)),
+    }
+}
+
+/// A folder with an archive of any age.
+fn with_library(folder: PathBuf) -> Result<PathBuf, String> {
+    let library = folder.join(LIBRARY);
+    if !library.is_file() {
+        return Err(format!("there is no {}", library.display()));
+    }
+    folder.canonicalize().map_err(|error| error.to_string())
+}
+
+/// The usual folder, if its archive is no older than the sources beside it.
+fn with_fresh_library(top: &Path) -> Result<PathBuf, String> {
+    for sources in ["crates", "crates.txt"] {
+        println!("cargo:rerun-if-changed={}", top.join(sources).display());
+    }
+    let folder = with_library(top.join(USUAL_FOLDER))?;
+    let library = folder.join(LIBRARY);
+    let fresh = Command::new(top.join("tools/fresh")).arg(&library).status();
+    match fresh {
+        Ok(status) if status.success() => Ok(folder),
+        Ok(_) => Err(format!("{} is older than its sources", library.display())),
+        Err(error) => Err(format!("tools/fresh cannot be run: {error}")),
+    }
 }

@@ -23,6 +23,7 @@ impl Block {
     }
 
     /// The number of jobs; their tickets are 1 to this number.
+    #[must_use]
     pub fn jobs(&self) -> u8 {
         self.work.count
     }
@@ -41,6 +42,7 @@ impl Block {
     }
 
     /// Gives each ticket its turn, in order: its word, or none for a turn that was refused.
+    #[must_use = "a refused turn is told by its missing word alone"]
     pub fn give_turns(&mut self, tickets: &[u8]) -> Vec<Option<Word>> {
         let mut words = vec![REFUSED_TURN; tickets.len()];
         // As many bytes as tickets: there is nothing to refuse.

@@ -4,10 +4,10 @@
 //! their turns in any order, and its settled table is the serial run of its final jobs. Whatever is
 //! handed in, the answer is a value or a [`Refusal`] with document 01's number; nothing panics.
 //!
-//! ```
+#![cfg_attr(target_arch = "x86_64", doc = "```")]
+#![cfg_attr(not(target_arch = "x86_64"), doc = "```ignore")]
 //! use garvolish::{Block, Refusal, Word};
 //!
-//! # #[cfg(target_arch = "x86_64")]
 //! # fn main() -> Result<(), Refusal> {
 //! // One job of one instruction, STOP.
 //! let paper = [0x10, 9, 0, 0, 0, 0, 0, 0, 0, 0, 0, 0];
@@ -21,23 +21,30 @@
 //! assert_eq!((f, table), (1, [3; 256]));
 //! # Ok(())
 //! # }
-//! # #[cfg(not(target_arch = "x86_64"))]
-//! # fn main() {}
 //! ```
 //!
 //! Half a megabyte of stack is enough for any call. The library links on x86-64 only; elsewhere
-//! this package can be checked and not linked.
+//! this package can be checked and not linked, and its tests are ignored.
 
 mod block;
 mod layout;
 mod raw;
 mod refusal;
+mod version;
 mod word;
 
 #[cfg(all(test, target_arch = "x86_64"))]
 mod tests;
 
+#[cfg(all(test, not(target_arch = "x86_64")))]
+#[test]
+#[ignore = "there is no archive for this processor"]
+fn calls_of_the_library() {
+    panic!("the library is x86-64 code");
+}
+
 pub use block::{run_serially, Block};
 pub use layout::CELLS;
 pub use refusal::Refusal;
+pub use version::{version, VERSION};
 pub use word::{Word, REFUSED_TURN};

@@ -33,7 +33,18 @@ extern "C" {
         paper: *const u8,
         length: usize,
     ) -> u32;
+    fn garvolish_version() -> u32;
+    /// Whoever changes the block's layout raises the number here.
+    #[cfg(target_arch = "x86_64")]
+    #[link_name = "garvolish_layout_1"]
+    fn garvolish_layout() -> u32;
 }
+
+/// Has the symbol needed, so that nothing links with an archive of another layout. Elsewhere the
+/// tests link without an archive, to say that they are ignored.
+#[cfg(target_arch = "x86_64")]
+#[used]
+static LAYOUT_NEEDED: unsafe extern "C" fn() -> u32 = garvolish_layout;
 
 /// A block of no jobs on an all-zero table.
 // SAFETY: a block is integers alone, and zero is a value of each.
@@ -72,4 +83,17 @@ pub fn run_serially(start: &[u64], output: &mut [u64], paper: &[u8]) -> u32 {
     let (paper, length) = (paper.as_ptr(), paper.len());
     // SAFETY: only the output is written, which is borrowed alone; each slice has its own length.
     unsafe { garvolish_run_serially(start, start_cells, output, output_cells, paper, length) }
+}
+
+/// The version of the archive.
+pub fn version() -> u32 {
+    // SAFETY: nothing is handed over.
+    unsafe { garvolish_version() }
+}
+
+/// The bytes of a block, as the archive has it.
+#[cfg(all(test, target_arch = "x86_64"))]
+pub fn block_size() -> u32 {
+    // SAFETY: nothing is handed over.
+    unsafe { garvolish_layout() }
 }

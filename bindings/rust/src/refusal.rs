@@ -31,6 +31,7 @@ impl Refusal {
     }
 
     /// What the number means, as the C header says it.
+    #[must_use]
     pub fn meaning(&self) -> &'static str {
         match self.number {
             1 => "fewer than 3 bytes left for a head, or contents run past the end",
@@ -53,15 +54,14 @@ impl Refusal {
     }
 }
 
-/// The refusal as a session's output has it.
+/// The number, the job and the place where it names them, and the meaning.
 impl fmt::Display for Refusal {
     fn fmt(&self, out: &mut fmt::Formatter<'_>) -> fmt::Result {
-        let Refusal {
-            number,
-            field,
-            place,
-        } = self;
-        write!(out, "refused {number} {field} {place}")
+        write!(out, "refused {}", self.number)?;
+        if self.field != 0 {
+            write!(out, ", job {}, place {}", self.field, self.place)?;
+        }
+        write!(out, ": {}", self.meaning())
     }
 }
 

@@ -34,6 +34,7 @@ impl Word {
 
     /// The word for a byte of [`Block::take_turns`](crate::Block::take_turns); none for
     /// [`REFUSED_TURN`] and above.
+    #[must_use]
     pub fn of_byte(byte: u8) -> Option<Word> {
         Word::IN_ORDER.get(usize::from(byte)).copied()
     }

@@ -9,7 +9,15 @@ use crate::number::take_number;
 use machine::counts::Ticket;
 use turns::block::Block;
 use turns::turn::change_of;
+ghost use mathlib.Core.Path.{_≡_};
 ghost use Rattle.garvolish.specs.Numbers.{TurnsTo, TakesTo, OpensTo, SettlesTo, ServesTo};
+ghost use Rattle.garvolish.specs.Version.{VERSION, SIZE};
+
+const MAJOR: u32 = 0;
+
+const MINOR: u32 = 13;
+
+const PATCH: u32 = 0;
 
 // The block becomes a paper's, every job fresh; or a refusal, and then a block with no jobs and an all-zero table.
 #[no_mangle]
@@ -62,4 +70,20 @@ pub extern "C" fn garvolish_run_serially(start: &[u64], output: &mut [u64], pape
     ensures { λ r. ⌜ ServesTo (now (start .entry)) (now (output .entry)) (now (paper .entry)) r (now (output .exit)) ⌝ }
 {
     serial_number(start, output, paper)
+}
+
+// The library's version in one number, a byte each for minor and patch.
+#[no_mangle]
+pub extern "C" fn garvolish_version() -> u32
+    ensures { λ r. ⌜ r ≡ VERSION ⌝ }
+{
+    65536 * MAJOR + 256 * MINOR + PATCH
+}
+
+// The bytes of a block. The name has the number of the block's layout, so that a program compiled for another does not link.
+#[no_mangle]
+pub extern "C" fn garvolish_layout_1() -> u32
+    ensures { λ r. ⌜ r ≡ SIZE ⌝ }
+{
+    38696
 }

@@ -1,7 +1,7 @@
 //! Blocks whose sizes do not fit: 20, and nothing is changed.
 
 use super::paper::{paper, READER, WRITER};
-use super::{opened, refusal};
+use super::{give, opened, refusal};
 use crate::layout::{self, Checkpoint, FEW};
 use crate::{Block, CELLS};
 
@@ -42,7 +42,7 @@ fn checkpoint(block: &mut layout::Block) -> &mut Checkpoint {
 /// Ticket 1 has ended, with a journal entry and a version; ticket 2 lists a read.
 fn block() -> Block {
     let mut block = opened(&paper(&[&WRITER, &READER]));
-    block.give_turns(&[1, 1, 1, 1, 2, 2]);
+    give(&mut block, &[1, 1, 1, 1, 2, 2]);
     block
 }
 

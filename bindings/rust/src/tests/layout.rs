@@ -1,7 +1,7 @@
 //! A block in work, read field by field where the library has put it.
 
 use super::paper::{paper, PUSH, READER, WRITE, WRITER};
-use super::table;
+use super::{give, table};
 use crate::layout::{Checkpoint, Entry, Read, FEW};
 use crate::Block;
 
@@ -10,7 +10,7 @@ fn block() -> Block {
     let reader = [&[(PUSH, 1), (PUSH, 8), (WRITE, 0)], &READER[..]].concat();
     let jobs = paper(&[&WRITER, &reader]);
     let mut block = Block::open(&table(&[(9, 4)]), &jobs).expect("two jobs that pass");
-    block.give_turns(&[1, 1, 1, 1, 2, 2, 2, 2, 2, 2]);
+    give(&mut block, &[1, 1, 1, 1, 2, 2, 2, 2, 2, 2]);
     block
 }
 

@@ -10,6 +10,7 @@ mod serial;
 mod session;
 mod session_s;
 mod stack;
+mod version;
 
 use crate::{Block, Refusal, CELLS};
 
@@ -25,6 +26,12 @@ fn table(cells: &[(usize, u64)]) -> [u64; CELLS] {
 /// A block of a paper that passes, all cells 0.
 fn opened(paper: &[u8]) -> Block {
     Block::open(&table(&[]), paper).expect("a paper that passes")
+}
+
+/// Gives turns of which none is refused.
+fn give(block: &mut Block, tickets: &[u8]) {
+    let words = block.give_turns(tickets);
+    assert!(words.iter().all(Option::is_some), "{words:?}");
 }
 
 /// The settled table and f.

@@ -124,7 +124,11 @@ fn an_empty_paper_passes_and_is_done() {
 
 #[test]
 fn texts() {
-    assert_eq!(refusal(9, 2, 16).to_string(), "refused 9 2 16");
+    let too_few = "refused 9, job 1, place 3: too few entries, or more than 16 left";
+    let error: Box<dyn std::error::Error> = refusal(9, 1, 3).into();
+    assert_eq!(error.to_string(), too_few);
+    let bad_ticket = "refused 14: a ticket that is none of the block's";
+    assert_eq!(refusal(14, 0, 0).to_string(), bad_ticket);
     assert_eq!(Word::Back.to_string(), "back");
     assert_eq!(format!("{:?}", opened(&[])), "Block { jobs: 0, .. }");
 }

@@ -47,7 +47,8 @@ fn compare(session: &Session<'_>, expected: &str) -> usize {
     let Ok(mut block) = session.open() else {
         return 0;
     };
-    block.give_turns(session.tickets);
+    // Its words were compared above.
+    let _ = block.give_turns(session.tickets);
     finish_and_compare(&mut block, &session.start, session.paper);
     session.tickets.len()
 }

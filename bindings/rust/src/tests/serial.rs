@@ -1,7 +1,7 @@
 //! Once all jobs are final, the settled table is the serial run of all jobs.
 
 use super::paper::Random;
-use super::{settled, table};
+use super::{give, settled, table};
 use crate::{run_serially, Block, Word, CELLS};
 
 /// A job of 64 instructions is final within 65 turns once all lower tickets are.
@@ -10,7 +10,7 @@ const ENOUGH: usize = 65;
 /// Makes all jobs final, ticket by ticket, and compares with the serial run.
 pub fn finish_and_compare(block: &mut Block, start: &[u64], paper: &[u8]) {
     for ticket in 1..=block.jobs() {
-        block.give_turns(&[ticket; ENOUGH]);
+        give(block, &[ticket; ENOUGH]);
     }
     let mut serial = [0; CELLS];
     assert_eq!(run_serially(start, &mut serial, paper), Ok(()));

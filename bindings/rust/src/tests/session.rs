@@ -56,7 +56,7 @@ impl<'a> Session<'a> {
     pub fn played(&self, give: Give) -> String {
         let mut block = match self.open() {
             Ok(block) => block,
-            Err(refusal) => return format!("{refusal}\n"),
+            Err(refusal) => return refused_line(refusal),
         };
         let words = give(&mut block, self.tickets);
         self.turn_lines(&words) + &cell_lines(&block)
@@ -71,6 +71,16 @@ impl<'a> Session<'a> {
         });
         lines.collect()
     }
+}
+
+/// The line of a session that is refused.
+fn refused_line(refusal: Refusal) -> String {
+    let Refusal {
+        number,
+        field,
+        place,
+    } = refusal;
+    format!("refused {number} {field} {place}\n")
 }
 
 /// A line for each settled cell that is not 0.

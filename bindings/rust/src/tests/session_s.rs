@@ -46,7 +46,7 @@ fn a_byte_for_each_turn() {
 fn a_clone_goes_its_own_way() {
     let mut block = block();
     let mut clone = block.clone();
-    clone.give_turns(&TICKETS);
+    assert_eq!(clone.give_turns(&TICKETS).len(), TICKETS.len());
     assert_eq!(settled(&block), (table(&[(5, 3)]), 0));
     assert_eq!(block.turn(1), Ok(Word::Step));
     assert_eq!(clone.turn(1), Ok(Word::Idle));
