@@ -62,6 +62,24 @@ enum {
     GARVOLISH_UNMARKED = 255
 };
 
+/* The instructions, by their codes; docs/MANUAL.md, section 3, says what each does. */
+enum garvolish_code {
+    GARVOLISH_STOP = 0,
+    GARVOLISH_ABANDON = 1,
+    GARVOLISH_PUSH = 2,
+    GARVOLISH_POP = 3,
+    GARVOLISH_DUP = 4,
+    GARVOLISH_SWAP = 5,
+    GARVOLISH_ADD = 6,
+    GARVOLISH_SUB = 7,
+    GARVOLISH_LESS = 8,
+    GARVOLISH_EQUAL = 9,
+    GARVOLISH_READ = 10,
+    GARVOLISH_WRITE = 11,
+    GARVOLISH_JUMP = 12,
+    GARVOLISH_JUMPZERO = 13
+};
+
 /* What a turn did. A turn that is refused answers GARVOLISH_TICKET or GARVOLISH_MISFIT instead. */
 enum garvolish_word {
     GARVOLISH_IDLE = 0,

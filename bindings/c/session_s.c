@@ -5,8 +5,6 @@
 #include <stdio.h>
 #include <stdlib.h>
 
-enum code { STOP = 0, PUSH = 2, READ = 10, WRITE = 11 };
-
 enum { JOB_TAG = 0x10, HEAD_BYTES = 3, INSTRUCTION_BYTES = 9, OPERAND_BYTES = 8 };
 
 struct instruction {
@@ -16,19 +14,19 @@ struct instruction {
 
 /* Writes 7 to cell 5. */
 static const struct instruction job_1[] = {
-    {PUSH, 7},
-    {PUSH, 5},
-    {WRITE, 0},
-    {STOP, 0},
+    {GARVOLISH_PUSH, 7},
+    {GARVOLISH_PUSH, 5},
+    {GARVOLISH_WRITE, 0},
+    {GARVOLISH_STOP, 0},
 };
 
 /* Copies cell 5 to cell 6. */
 static const struct instruction job_2[] = {
-    {PUSH, 5},
-    {READ, 0},
-    {PUSH, 6},
-    {WRITE, 0},
-    {STOP, 0},
+    {GARVOLISH_PUSH, 5},
+    {GARVOLISH_READ, 0},
+    {GARVOLISH_PUSH, 6},
+    {GARVOLISH_WRITE, 0},
+    {GARVOLISH_STOP, 0},
 };
 
 enum { SIZE_1 = sizeof job_1 / sizeof job_1[0], SIZE_2 = sizeof job_2 / sizeof job_2[0] };

@@ -7,8 +7,10 @@ mod errors;
 mod examples;
 mod faults;
 mod generators;
+mod header;
 mod machine;
 mod malformed;
+mod manual;
 mod text_form;
 
 use crate::assemble::assemble;
