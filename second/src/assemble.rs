@@ -2,6 +2,7 @@
 
 use crate::field::{field_bytes, CELL_TAG, JOB_TAG, TURNS_TAG};
 use crate::instruction::{job_bytes, Code, Instruction, Job, CODES, INSTRUCTION_BYTES};
+use crate::nearest::no_such;
 use crate::words::{lines_of_words, Complaint, Word};
 use std::collections::BTreeMap;
 
@@ -130,7 +131,7 @@ impl<'a> Assembler<'a> {
         let Open::Job(job) = &mut self.open else {
             let what = match known {
                 Some(_) => "an instruction stands in a job".to_string(),
-                None => format!("`{}` is no word of the text form", first.text),
+                None => no_such(first.text, "word of the text form", first_words()),
             };
             return Err(first.complaint(what));
         };
@@ -140,7 +141,12 @@ impl<'a> Assembler<'a> {
                 code: number.number(255)? as u8,
                 operand: operand.number(u64::MAX)?,
             },
-            (None, _) => return Err(first.complaint(format!("`{}` is no instruction", first.text))),
+            (None, _) if first.text == "CODE" => {
+                return Err(first.complaint("`CODE` takes a code and an operand"));
+            }
+            (None, _) => {
+                return Err(first.complaint(no_such(first.text, "instruction", first_words())));
+            }
         };
         job.code.push(instruction);
         if job.code.len() * INSTRUCTION_BYTES > LONGEST_CONTENTS {
@@ -157,7 +163,12 @@ impl<'a> Assembler<'a> {
             Open::Job(mut job) => {
                 for (place, word) in &job.jumps {
                     let Some(target) = job.labels.get(word.text) else {
-                        return Err(word.complaint(format!("no label `{}` here", word.text)));
+                        let labels = job.labels.keys().copied();
+                        return Err(word.complaint(no_such(
+                            word.text,
+                            "label in this job",
+                            labels,
+                        )));
                     };
                     job.code[*place].operand = *target;
                 }
@@ -189,6 +200,15 @@ fn named_instruction<'a>(
         return Ok(Instruction::new(code, 0));
     }
     Ok(Instruction::new(code, operand.number(u64::MAX)?))
+}
+
+/// The words that begin a line, beside the instructions' names.
+const KEYWORDS: [&str; 5] = ["cell", "job", "turns", "bytes", "CODE"];
+
+/// Every word that can begin a line.
+fn first_words() -> impl Iterator<Item = &'static str> {
+    let names = CODES.iter().map(|(_, name)| *name);
+    names.chain(KEYWORDS)
 }
 
 /// Whether a word can be a label: so that no number is one.

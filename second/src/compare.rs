@@ -192,19 +192,21 @@ fn examples(folder: Option<&Path>) -> Result<Vec<Case>, String> {
 /// One example.
 fn example(path: &Path) -> Result<Case, String> {
     let name = path.display().to_string();
-    let read = |path: &Path| {
-        fs::read(path).map_err(|error| format!("cannot read {}: {error}", path.display()))
-    };
-    let text = read(path)?;
+    let text = read_file(path)?;
     let input = text_of(&text)
         .and_then(assemble)
         .map_err(|complaint| format!("{name}: {complaint}"))?;
-    let expected = read(&path.with_extension("expected"))?;
+    let expected = read_file(&path.with_extension("expected"))?;
     Ok(Case {
         name,
         input,
         expected,
     })
+}
+
+/// The bytes of a file.
+pub fn read_file(path: &Path) -> Result<Vec<u8>, String> {
+    fs::read(path).map_err(|error| format!("cannot read {}: {error}", path.display()))
 }
 
 /// Writes a file, its folder too if need be.

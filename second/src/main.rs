@@ -11,8 +11,10 @@ mod disassemble;
 mod engine;
 mod field;
 mod generate;
+mod help;
 mod instruction;
 mod machine;
+mod nearest;
 mod papers;
 mod random;
 mod rule;
@@ -26,18 +28,19 @@ mod work;
 #[cfg(test)]
 mod tests;
 
-use arguments::Arguments;
-use compare::{write_file, Comparison};
+use arguments::{Arguments, FILE};
+use compare::{read_file, write_file, Comparison};
 use std::ffi::OsString;
 use std::io::{self, Read, Write};
 use std::path::PathBuf;
 use std::process::ExitCode;
+use words::Complaint;
 
 const USAGE: &str = "usage:
-  second play [--mutant NAME] < session.bin
-  second assemble < text > session.bin
-  second disassemble < session.bin > text
-  second verdicts < papers.txt
+  second play [--mutant NAME] [FILE]
+  second assemble [FILE] > session.bin
+  second disassemble [FILE] > text
+  second verdicts [FILE]
   second generate-papers --seed S --count N > papers.txt
   second generate --seed S --count N --out DIR
   second compare --seed S --count N [--examples DIR] [--keep DIR] -- COMMAND ARGS..
@@ -54,6 +57,7 @@ fn main() -> ExitCode {
         None => ("".into(), &words[..]),
     };
     let outcome = match name.as_ref() {
+        asked if help::is_wanted(asked, rest) => help(asked),
         "play" => play(rest),
         "assemble" => assemble(rest),
         "disassemble" => disassemble(rest),
@@ -63,7 +67,7 @@ fn main() -> ExitCode {
         "compare" => compare(rest),
         "mutants" => mutants(rest),
         "" => Err(format!("no sub-command\n{USAGE}")),
-        other => Err(format!("`{other}` is no sub-command\n{USAGE}")),
+        other => Err(help::no_such_command(other)),
     };
     match outcome {
         Ok(true) => ExitCode::SUCCESS,
@@ -84,6 +88,27 @@ fn input() -> Result<Vec<u8>, String> {
     Ok(bytes)
 }
 
+/// The file that is named, to its end; where none is, standard input.
+fn input_of(arguments: &Arguments) -> Result<Vec<u8>, String> {
+    match &arguments.file {
+        Some(file) => read_file(file),
+        None => input(),
+    }
+}
+
+/// What a text form's reader makes of the input; a complaint names the file.
+fn text_input<T>(
+    arguments: &Arguments,
+    reader: impl Fn(&str) -> Result<T, Complaint>,
+) -> Result<T, String> {
+    let bytes = input_of(arguments)?;
+    let read = words::text_of(&bytes).and_then(reader);
+    read.map_err(|complaint| match &arguments.file {
+        Some(file) => format!("{}: {complaint}", file.display()),
+        None => complaint.to_string(),
+    })
+}
+
 /// Puts bytes out at once.
 fn print(bytes: &[u8]) -> Result<(), String> {
     let mut out = io::stdout();
@@ -95,31 +120,33 @@ fn print_line(line: &str) -> Result<(), String> {
     print(format!("{line}\n").as_bytes())
 }
 
+fn help(asked: &str) -> Outcome {
+    print(help::text(asked).as_bytes())?;
+    Ok(true)
+}
+
 fn play(words: &[OsString]) -> Outcome {
-    let broken = Arguments::parse(words, &["--mutant"])?.mutant("--mutant")?;
-    print(session::play(&input()?, broken).as_bytes())?;
+    let arguments = Arguments::parse(words, &["--mutant", FILE])?;
+    let broken = arguments.mutant("--mutant")?;
+    print(session::play(&input_of(&arguments)?, broken).as_bytes())?;
     Ok(true)
 }
 
 fn assemble(words: &[OsString]) -> Outcome {
-    Arguments::parse(words, &[])?;
-    let text = input()?;
-    let bytes = words::text_of(&text).and_then(assemble::assemble);
-    print(&bytes.map_err(|complaint| complaint.to_string())?)?;
+    let arguments = Arguments::parse(words, &[FILE])?;
+    print(&text_input(&arguments, assemble::assemble)?)?;
     Ok(true)
 }
 
 fn disassemble(words: &[OsString]) -> Outcome {
-    Arguments::parse(words, &[])?;
-    print(disassemble::disassemble(&input()?).as_bytes())?;
+    let arguments = Arguments::parse(words, &[FILE])?;
+    print(disassemble::disassemble(&input_of(&arguments)?).as_bytes())?;
     Ok(true)
 }
 
 fn verdicts(words: &[OsString]) -> Outcome {
-    Arguments::parse(words, &[])?;
-    let text = input()?;
-    let papers = words::text_of(&text).and_then(papers::papers_from);
-    let papers = papers.map_err(|complaint| complaint.to_string())?;
+    let arguments = Arguments::parse(words, &[FILE])?;
+    let papers = text_input(&arguments, papers::papers_from)?;
     let lines: String = papers
         .iter()
         .map(|paper| papers::verdict_line(paper))

@@ -58,8 +58,12 @@ impl Word<'_> {
     }
 }
 
+/// What some editors put before a text; it is no part of the text.
+const BYTE_ORDER_MARK: &[u8] = b"\xef\xbb\xbf";
+
 /// The text that bytes hold, or a complaint about the first byte that is not UTF-8.
 pub fn text_of(bytes: &[u8]) -> Result<&str, Complaint> {
+    let bytes = bytes.strip_prefix(BYTE_ORDER_MARK).unwrap_or(bytes);
     std::str::from_utf8(bytes).map_err(|error| {
         let sound = String::from_utf8_lossy(&bytes[..error.valid_up_to()]);
         let line_start = sound.rfind('\n').map_or(0, |newline| newline + 1);

@@ -12,6 +12,7 @@ mod machine;
 mod malformed;
 mod manual;
 mod text_form;
+mod usage;
 
 use crate::assemble::assemble;
 use crate::papers::verdict_line;
