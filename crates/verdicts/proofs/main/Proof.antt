@@ -7,7 +7,7 @@ use Rattle.verdicts.proofs.main.Statement.{statement}
 use Rattle.verdicts.proofs.main.Tie as tie
 
 abbrev Inv-loop : tie.InvT-loop
-Inv-loop paper₀ bytes₀ reader₀ turns₀ paper bytes reader turns = (4096 ≡ length bytes) × (16384 ≡ length paper)
+Inv-loop paper₀ bytes₀ reader₀ turns₀ paper bytes reader turns = (4096 ≡ length bytes) × (74802 ≡ length paper)
 
 abbrev μ-loop : tie.MeasureT-loop
 μ-loop paper₀ bytes₀ reader₀ turns₀ paper bytes reader turns = turns
@@ -15,8 +15,8 @@ abbrev μ-loop : tie.MeasureT-loop
 buffer-requires : tie.Need-buffer-requires Inv-loop μ-loop
 buffer-requires c κs = search needs
 
-after-requires : tie.Need-after-requires Inv-loop μ-loop
-after-requires c κs = search needs
+fresh-requires : tie.Need-fresh-requires Inv-loop μ-loop
+fresh-requires c κs = search needs
 
 loop-holds : tie.Need-loop-holds Inv-loop μ-loop
 loop-holds c = search needs
@@ -26,6 +26,9 @@ slice-aggregate-read-full c = search needs
 
 read-full-requires : tie.Need-read-full-requires Inv-loop μ-loop
 read-full-requires c κs = search needs
+
+end-text-requires : tie.Need-end-text-requires Inv-loop μ-loop
+end-text-requires c κs = search needs
 
 returns : tie.Need-returns Inv-loop μ-loop
 returns c = search needs
@@ -61,10 +64,11 @@ main-spec =
     Inv-loop
     μ-loop
     buffer-requires
-    after-requires
+    fresh-requires
     loop-holds
     slice-aggregate-read-full
     read-full-requires
+    end-text-requires
     returns
     slice-aggregate-read-bytes
     array-share-prefix-bytes
