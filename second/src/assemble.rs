@@ -1,6 +1,6 @@
 //! The text form of a session, turned into the session's bytes.
 
-use crate::field::{field_bytes, CELL_TAG, JOB_TAG, TURNS_TAG};
+use crate::field::{field_bytes, CELL_TAG, HEAD_BYTES, JOB_TAG, TURNS_TAG};
 use crate::instruction::{job_bytes, Code, Instruction, Job, CODES, INSTRUCTION_BYTES};
 use crate::nearest::no_such;
 use crate::words::{lines_of_words, Complaint, Word};
@@ -9,10 +9,27 @@ use std::collections::BTreeMap;
 /// Most bytes that a field's two-byte length can tell.
 const LONGEST_CONTENTS: usize = 65_535;
 
+/// The lines of a text that gave its bytes: a line's number, from its first byte on.
+#[derive(Clone, Debug, Default, PartialEq, Eq)]
+pub struct Lines {
+    starts: Vec<(usize, usize)>,
+    end: usize,
+}
+
+impl Lines {
+    /// The line that gave this byte; none past the last byte.
+    pub fn of(&self, byte: usize) -> Option<usize> {
+        let given = self.starts.iter().rev().find(|(start, _)| *start <= byte);
+        given.filter(|_| byte < self.end).map(|(_, line)| *line)
+    }
+}
+
 /// A job whose lines are being read.
-#[derive(Default)]
 struct OpenJob<'a> {
+    line: usize,
     code: Job,
+    /// The line of each instruction.
+    lines: Vec<usize>,
     labels: BTreeMap<&'a str, u64>,
     /// Jumps to a label: the jump's place and the word with the label's name.
     jumps: Vec<(usize, Word<'a>)>,
@@ -22,25 +39,34 @@ struct OpenJob<'a> {
 enum Open<'a> {
     Nothing,
     Job(OpenJob<'a>),
-    Turns(Vec<u8>),
+    /// The first line and the tickets.
+    Turns(usize, Vec<u8>),
 }
 
 struct Assembler<'a> {
     bytes: Vec<u8>,
+    lines: Lines,
     open: Open<'a>,
 }
 
 /// The session's bytes, or the first complaint.
 pub fn assemble(text: &str) -> Result<Vec<u8>, Complaint> {
+    assemble_with_lines(text).map(|(bytes, _)| bytes)
+}
+
+/// The session's bytes with the lines that gave them, or the first complaint.
+pub fn assemble_with_lines(text: &str) -> Result<(Vec<u8>, Lines), Complaint> {
     let mut assembler = Assembler {
         bytes: Vec::new(),
+        lines: Lines::default(),
         open: Open::Nothing,
     };
     for words in lines_of_words(text) {
         assembler.line(&words)?;
     }
     assembler.close()?;
-    Ok(assembler.bytes)
+    assembler.lines.end = assembler.bytes.len();
+    Ok((assembler.bytes, assembler.lines))
 }
 
 impl<'a> Assembler<'a> {
@@ -55,9 +81,9 @@ impl<'a> Assembler<'a> {
         }
         match first.text {
             "cell" => self.cell(first, rest),
-            "job" => self.job(rest),
+            "job" => self.job(first, rest),
             "turns" => self.turns(first, rest),
-            "bytes" => self.raw_bytes(rest),
+            "bytes" => self.raw_bytes(first, rest),
             _ => self.instruction(first, rest),
         }
     }
@@ -70,25 +96,30 @@ impl<'a> Assembler<'a> {
         };
         let mut contents = vec![cell.number(255)? as u8];
         contents.extend(value.number(u64::MAX)?.to_le_bytes());
-        self.bytes
-            .extend(field_bytes(CELL_TAG, &contents).unwrap_or_default());
+        self.field(first.line, CELL_TAG, &contents);
         Ok(())
     }
 
     /// `job`: opens a 0x10 field, which the instruction lines after it fill.
-    fn job(&mut self, rest: &[Word<'a>]) -> Result<(), Complaint> {
+    fn job(&mut self, first: &Word<'a>, rest: &[Word<'a>]) -> Result<(), Complaint> {
         self.close()?;
-        self.open = Open::Job(OpenJob::default());
+        self.open = Open::Job(OpenJob {
+            line: first.line,
+            code: Job::new(),
+            lines: Vec::new(),
+            labels: BTreeMap::new(),
+            jumps: Vec::new(),
+        });
         nothing_more(rest)
     }
 
     /// `turns TICKET TICKETxTIMES ..`: the 0x02 field; `turns` lines in a row are one field.
     fn turns(&mut self, first: &Word<'a>, rest: &[Word<'a>]) -> Result<(), Complaint> {
-        if !matches!(self.open, Open::Turns(_)) {
+        if !matches!(self.open, Open::Turns(..)) {
             self.close()?;
-            self.open = Open::Turns(Vec::new());
+            self.open = Open::Turns(first.line, Vec::new());
         }
-        let Open::Turns(tickets) = &mut self.open else {
+        let Open::Turns(_, tickets) = &mut self.open else {
             return Ok(());
         };
         for word in rest {
@@ -102,8 +133,9 @@ impl<'a> Assembler<'a> {
     }
 
     /// `bytes HEX HEX ..`: bytes as they are, outside any field of the text form.
-    fn raw_bytes(&mut self, rest: &[Word<'a>]) -> Result<(), Complaint> {
+    fn raw_bytes(&mut self, first: &Word<'a>, rest: &[Word<'a>]) -> Result<(), Complaint> {
         self.close()?;
+        self.begins_here(first.line);
         for word in rest {
             self.bytes.push(word.hex_byte()?);
         }
@@ -149,6 +181,7 @@ impl<'a> Assembler<'a> {
             }
         };
         job.code.push(instruction);
+        job.lines.push(first.line);
         if job.code.len() * INSTRUCTION_BYTES > LONGEST_CONTENTS {
             return Err(first.complaint("a field holds at most 7281 instructions"));
         }
@@ -157,9 +190,9 @@ impl<'a> Assembler<'a> {
 
     /// Writes the open field, its labels now known.
     fn close(&mut self) -> Result<(), Complaint> {
-        let (tag, contents) = match std::mem::replace(&mut self.open, Open::Nothing) {
-            Open::Nothing => return Ok(()),
-            Open::Turns(tickets) => (TURNS_TAG, tickets),
+        match std::mem::replace(&mut self.open, Open::Nothing) {
+            Open::Nothing => {}
+            Open::Turns(line, tickets) => self.field(line, TURNS_TAG, &tickets),
             Open::Job(mut job) => {
                 for (place, word) in &job.jumps {
                     let Some(target) = job.labels.get(word.text) else {
@@ -172,12 +205,27 @@ impl<'a> Assembler<'a> {
                     };
                     job.code[*place].operand = *target;
                 }
-                (JOB_TAG, job_bytes(&job.code))
+                let contents = self.bytes.len() + HEAD_BYTES;
+                self.field(job.line, JOB_TAG, &job_bytes(&job.code));
+                for (place, line) in job.lines.iter().enumerate() {
+                    let byte = contents + place * INSTRUCTION_BYTES;
+                    self.lines.starts.push((byte, *line));
+                }
             }
-        };
-        self.bytes
-            .extend(field_bytes(tag, &contents).unwrap_or_default());
+        }
         Ok(())
+    }
+
+    /// Writes a field that this line began.
+    fn field(&mut self, line: usize, tag: u8, contents: &[u8]) {
+        self.begins_here(line);
+        self.bytes
+            .extend(field_bytes(tag, contents).unwrap_or_default());
+    }
+
+    /// The next byte is given by this line.
+    fn begins_here(&mut self, line: usize) {
+        self.lines.starts.push((self.bytes.len(), line));
     }
 }
 

@@ -88,27 +88,58 @@ fn check_last(job: &[Instruction]) -> Result<(), Fault> {
 
 /// Place by place: 8, 10, 9. Jumps lead to later places, so all who lead here come before.
 fn check_heights(job: &[Instruction]) -> Result<(), Fault> {
-    let mut brought: Vec<Vec<u64>> = vec![Vec::new(); job.len()];
+    let mut heights = Heights::of_none(job.len());
     for (index, instruction) in job.iter().enumerate() {
         let place = Place(index);
-        if index == 0 {
-            brought[index].push(0);
-        }
-        let Some(&height) = brought[index].first() else {
+        let Some(height) = heights.at(place) else {
             return Err((8, place));
         };
-        if brought[index].iter().any(|other| *other != height) {
+        let brought = &heights.brought[index];
+        if brought.iter().any(|(_, other)| *other != height) {
             return Err((10, place));
         }
-        let after = instruction.leaves(height);
-        if instruction.needs() > height || after > MOST_ENTRIES as u64 {
+        if instruction.needs() > height || instruction.leaves(height) > MOST_ENTRIES as u64 {
             return Err((9, place));
         }
+        heights.lead_on(place, *instruction, height);
+    }
+    Ok(())
+}
+
+/// The places that lead to each place so far, with the heights they bring.
+struct Heights {
+    brought: Vec<Vec<(Place, u64)>>,
+}
+
+impl Heights {
+    /// Before any instruction of a job so long was looked at.
+    fn of_none(length: usize) -> Heights {
+        let brought = vec![Vec::new(); length];
+        Heights { brought }
+    }
+
+    /// The height at a place, by the first that leads there; place 0 has height 0.
+    fn at(&self, place: Place) -> Option<u64> {
+        let brought = self.brought[place.0].first().map(|(_, height)| *height);
+        brought.or((place.0 == 0).then_some(0))
+    }
+
+    /// Brings the height that an instruction leaves to all it leads to.
+    fn lead_on(&mut self, place: Place, instruction: Instruction, height: u64) {
         for target in instruction.leads_to(place) {
-            if let Some(heights) = brought.get_mut(target.0) {
-                heights.push(after);
+            if let Some(brought) = self.brought.get_mut(target.0) {
+                brought.push((place, instruction.leaves(height)));
             }
         }
     }
-    Ok(())
+}
+
+/// Who leads to a place that no fault comes before, with the heights they bring.
+pub fn heights_brought(job: &[Instruction], here: Place) -> Vec<(Place, u64)> {
+    let mut heights = Heights::of_none(job.len());
+    for (index, instruction) in job.iter().enumerate().take(here.0) {
+        let height = heights.at(Place(index)).unwrap_or_default();
+        heights.lead_on(Place(index), *instruction, height);
+    }
+    heights.brought.swap_remove(here.0)
 }

@@ -218,7 +218,7 @@ pub fn write_file(path: &Path, bytes: &[u8]) -> Result<(), String> {
 }
 
 /// The first line in which two texts differ, in words.
-fn first_difference(expected: &[u8], found: &[u8]) -> String {
+pub fn first_difference(expected: &[u8], found: &[u8]) -> String {
     let line_of = |line: Option<&[u8]>| match line {
         Some(line) => format!("`{}`", String::from_utf8_lossy(line)),
         None => "the end".to_string(),

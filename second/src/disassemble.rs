@@ -65,16 +65,12 @@ fn names_later_place(jump: Instruction, place: usize, length: usize) -> bool {
 /// One instruction's line.
 fn instruction_text(instruction: Instruction, place: usize, length: usize) -> String {
     let Instruction { code, operand } = instruction;
-    let Some((known, name)) = CODES.get(usize::from(code)) else {
-        return format!("  CODE {code} {operand}\n");
-    };
-    if names_later_place(instruction, place, length) {
-        return format!("  {name} p{operand}\n");
+    match CODES.get(usize::from(code)) {
+        Some((_, name)) if names_later_place(instruction, place, length) => {
+            format!("  {name} p{operand}\n")
+        }
+        _ => format!("  {instruction}\n"),
     }
-    if operand == 0 && !known.takes_operand() {
-        return format!("  {name}\n");
-    }
-    format!("  {name} {operand}\n")
 }
 
 /// The tickets, runs of one ticket shortened.

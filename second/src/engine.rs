@@ -2,6 +2,7 @@
 
 use crate::counts::{Cell, Table, Ticket};
 use crate::instruction::{Code, Instruction, Job, MOST_JOBS, MOST_READS, MOST_WRITES};
+use crate::log::{Event, Found, Log, Return};
 use crate::machine::{cell_to_read, run, Write};
 use crate::rule::Rule;
 use crate::work::{JobInWork, Phase};
@@ -36,14 +37,6 @@ impl Answer {
     }
 }
 
-/// Where a READ finds its value.
-enum Found {
-    /// In the job's own journal or list of reads.
-    Own(u64),
-    /// In a public version, or in the start table as ticket 0.
-    Version(Ticket, u64),
-}
-
 /// A block in work: the start table and the jobs, ticket 1 first.
 #[derive(Clone, Debug, PartialEq, Eq)]
 pub struct Block {
@@ -51,6 +44,8 @@ pub struct Block {
     pub jobs: Vec<JobInWork>,
     /// The rule that a mutant breaks; none in the right engine.
     pub broken: Option<Rule>,
+    /// What its turns did, for those who tell of it.
+    pub log: Log,
 }
 
 impl Block {
@@ -61,6 +56,7 @@ impl Block {
             start,
             jobs,
             broken,
+            log: Log::default(),
         }
     }
 
@@ -137,6 +133,8 @@ impl Block {
         let Some(checkpoint) = read.map(|read| read.checkpoint.clone()) else {
             return Answer::Stuck;
         };
+        let lost = Return::of(job, &checkpoint);
+        self.log.note(Event::WentBack(lost));
         if self.keeps(Rule::BackLosesJournal) {
             let length = checkpoint.journal_length;
             self.job_mut(ticket).journal.truncate(length);
@@ -170,10 +168,7 @@ impl Block {
         let job = self.job(ticket);
         let cell = cell_to_read(instruction, &job.state);
         let found = cell.map(|cell| self.find(ticket, cell));
-        let value = match found {
-            Some(Found::Own(value) | Found::Version(_, value)) => value,
-            None => 0,
-        };
+        let value = found.map_or(0, Found::value);
         let Some((after, write)) = run(instruction, &job.state, value) else {
             return Answer::Stuck;
         };
@@ -183,10 +178,14 @@ impl Block {
         if !job.state_fits(&after) || !read_room || !write_room {
             return Answer::Stuck;
         }
-        if let (Some(cell), Some(Found::Version(source, value))) = (cell, found) {
-            self.job_mut(ticket).list_read(cell, source, value);
+        if let (Some(cell), Some(found)) = (cell, found) {
+            self.log.note(Event::Read(cell, found));
+            if let Found::Version(source, value) = found {
+                self.job_mut(ticket).list_read(cell, source, value);
+            }
         }
         if let Some(write) = write {
+            self.log.note(Event::Wrote(write));
             self.add_to_journal(ticket, write);
         }
         self.job_mut(ticket).state = after;
@@ -196,8 +195,12 @@ impl Block {
     /// What a READ of a cell finds: the job's own value, failing that the public version with
     /// the greatest ticket below its own.
     fn find(&self, ticket: Ticket, cell: Cell) -> Found {
-        if let Some(value) = self.job(ticket).own_value(cell) {
-            return Found::Own(value);
+        let job = self.job(ticket);
+        if let Some(entry) = job.last_entry(cell) {
+            return Found::Journal(job.journal[entry].value);
+        }
+        if let Some(value) = job.listed_value(cell) {
+            return Found::Listed(value);
         }
         let (source, value) = self.newest_version_below(ticket, cell);
         Found::Version(source, value)

@@ -6,6 +6,8 @@ pub const CELL_TAG: u8 = 0x01;
 pub const TURNS_TAG: u8 = 0x02;
 /// The tag of a job.
 pub const JOB_TAG: u8 = 0x10;
+/// The tags that a session knows.
+pub const TAGS: [u8; 3] = [CELL_TAG, JOB_TAG, TURNS_TAG];
 /// The bytes of a tag and a length.
 pub const HEAD_BYTES: usize = 3;
 

@@ -1,6 +1,7 @@
 //! The fourteen instructions: their codes, names, operands, and what they do to the stack's height.
 
 use crate::counts::Place;
+use std::fmt;
 
 /// At most so many jobs in a block.
 pub const MOST_JOBS: usize = 16;
@@ -149,6 +150,20 @@ impl Instruction {
         let mut bytes = [self.code; INSTRUCTION_BYTES];
         bytes[1..].copy_from_slice(&self.operand.to_le_bytes());
         bytes
+    }
+}
+
+/// As the text form has it, a jump's place as a number.
+impl fmt::Display for Instruction {
+    fn fmt(&self, out: &mut fmt::Formatter<'_>) -> fmt::Result {
+        let Instruction { code, operand } = self;
+        match CODES.get(usize::from(*code)) {
+            None => write!(out, "CODE {code} {operand}"),
+            Some((known, name)) if *operand == 0 && !known.takes_operand() => {
+                write!(out, "{name}")
+            }
+            Some((_, name)) => write!(out, "{name} {operand}"),
+        }
     }
 }
 

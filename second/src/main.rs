@@ -8,11 +8,14 @@ mod compare;
 mod counts;
 mod demands;
 mod disassemble;
+mod draw;
 mod engine;
+mod explain;
 mod field;
 mod generate;
 mod help;
 mod instruction;
+mod log;
 mod machine;
 mod nearest;
 mod papers;
@@ -21,6 +24,7 @@ mod rule;
 mod serial;
 mod session;
 mod shrink;
+mod support;
 mod versions;
 mod words;
 mod work;
@@ -45,10 +49,17 @@ const USAGE: &str = "usage:
   second generate --seed S --count N --out DIR
   second compare --seed S --count N [--examples DIR] [--keep DIR] -- COMMAND ARGS..
   second mutants --seed S --count N
+  second bytes < SESSION > session.bin
+  second explain --played FILE < SESSION
+  second draw --played FILE < SESSION > session.svg
+a SESSION is text or bytes; FILE is what the proved program printed for it
 ";
 
 /// What a sub-command answers: whether all is well, or why it could not be done.
 type Outcome = Result<bool, String>;
+
+/// The status of a sub-command that could not do its work.
+const NOT_DONE: u8 = 2;
 
 fn main() -> ExitCode {
     let words: Vec<OsString> = std::env::args_os().skip(1).collect();
@@ -66,18 +77,23 @@ fn main() -> ExitCode {
         "generate" => generate(rest),
         "compare" => compare(rest),
         "mutants" => mutants(rest),
+        "bytes" => support::bytes(rest),
+        "explain" => return support::explain(rest),
+        "draw" => return support::draw(rest),
         "" => Err(format!("no sub-command\n{USAGE}")),
         other => Err(help::no_such_command(other)),
     };
     match outcome {
         Ok(true) => ExitCode::SUCCESS,
         Ok(false) => ExitCode::FAILURE,
-        Err(why) => {
-            // If even this cannot be written, the status still tells.
-            let _ = writeln!(io::stderr(), "second: {}", why.trim_end());
-            ExitCode::from(2)
-        }
+        Err(why) => complain(&why, NOT_DONE),
     }
+}
+
+/// Says on standard error what is wrong; if even this cannot be written, the status still tells.
+fn complain(why: &str, status: u8) -> ExitCode {
+    let _ = writeln!(io::stderr(), "second: {}", why.trim_end());
+    ExitCode::from(status)
 }
 
 /// Standard input to the end.

@@ -2,6 +2,7 @@
 
 use crate::counts::{Cell, Table, Ticket};
 use crate::engine::Block;
+use crate::log::{Before, Event, ToldRead};
 use crate::rule::Rule;
 use crate::work::ListedRead;
 use std::collections::BTreeSet;
@@ -44,6 +45,9 @@ impl Block {
                 continue;
             }
             self.job_mut(ticket).public.insert(cell, entry);
+            let write = self.job(ticket).journal[entry];
+            self.log
+                .note(Event::Published(write, Before::of(before, entry)));
             if before != Some(entry) || !self.keeps(Rule::StopMarksForOtherEntryOnly) {
                 self.mark_readers_of_older(ticket, cell);
             }
@@ -68,6 +72,7 @@ impl Block {
 
     /// Withdraws the job's public version of a cell.
     pub fn withdraw(&mut self, ticket: Ticket, cell: Cell) {
+        self.log.note(Event::Withdrew(cell));
         self.job_mut(ticket).public.remove(&cell);
     }
 
@@ -92,9 +97,11 @@ impl Block {
 
     /// Marks the listed reads of higher jobs that the test picks.
     fn mark_higher(&mut self, ticket: Ticket, picks: impl Fn(&ListedRead) -> bool) {
-        for job in self.jobs.iter_mut().skip(ticket.0) {
-            for read in &mut job.reads {
-                read.marked |= picks(read);
+        for (index, job) in self.jobs.iter_mut().enumerate().skip(ticket.0) {
+            for read in job.reads.iter_mut().filter(|read| picks(read)) {
+                let told = ToldRead::of(read);
+                self.log.note(Event::Marked(Ticket(index + 1), told));
+                read.marked = true;
             }
         }
     }

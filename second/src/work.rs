@@ -74,12 +74,6 @@ impl JobInWork {
         self.journal.get(*entry).map(|write| write.value)
     }
 
-    /// Its own value for a cell: the last journal entry, failing that its listed read.
-    pub fn own_value(&self, cell: Cell) -> Option<u64> {
-        let written = self.last_entry(cell).map(|entry| self.journal[entry].value);
-        written.or_else(|| self.listed_value(cell))
-    }
-
     /// The value that its list of reads has for a cell.
     pub fn listed_value(&self, cell: Cell) -> Option<u64> {
         let read = self.reads.iter().find(|read| read.cell == cell)?;

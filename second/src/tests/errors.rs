@@ -1,10 +1,9 @@
 //! "Errors we expect someone to make": each is seen in an example, and by the generator.
 
-use super::{played, played_by_mutant};
+use super::{example, played, played_by_mutant};
 use crate::generate::session::random_session;
 use crate::rule::{rule_broken_by, Mutant, MUTANTS};
 use crate::session::play;
-use std::path::Path;
 
 /// Each mutant with the example that shows it.
 const SHOWN_BY: [(&str, &str); 12] = [
@@ -24,12 +23,10 @@ const SHOWN_BY: [(&str, &str); 12] = [
 
 #[test]
 fn every_mutant_is_shown_by_an_example() {
-    let folder = Path::new(env!("CARGO_MANIFEST_DIR")).join("../examples");
     for mutant in &MUTANTS {
         let shown = SHOWN_BY.iter().find(|(name, _)| *name == mutant.name);
-        let (_, example) = shown.expect("an example for the mutant");
-        let path = folder.join(example).with_extension("session");
-        let text = std::fs::read_to_string(path).expect("the example");
+        let (_, name) = shown.expect("an example for the mutant");
+        let text = example(name);
         let wrong = played_by_mutant(&text, mutant.breaks);
         assert_ne!(wrong, played(&text), "{}", mutant.name);
     }
@@ -38,10 +35,8 @@ fn every_mutant_is_shown_by_an_example() {
 /// What the errors leave in the cells, as the examples' comments tell.
 #[test]
 fn what_each_error_would_leave() {
-    let folder = Path::new(env!("CARGO_MANIFEST_DIR")).join("../examples");
-    let cells = |example: &str, name: &str| {
-        let path = folder.join(example).with_extension("session");
-        let text = std::fs::read_to_string(path).expect("the example");
+    let cells = |shown_by: &str, name: &str| {
+        let text = example(shown_by);
         let rule = rule_broken_by(name).expect("a mutant");
         let printed = played_by_mutant(&text, rule);
         let cells: Vec<&str> = printed
@@ -61,8 +56,8 @@ fn what_each_error_would_leave() {
     ];
     for (name, expected) in left {
         let shown = SHOWN_BY.iter().find(|(mutant, _)| *mutant == name);
-        let (_, example) = shown.expect("an example for the mutant");
-        assert_eq!(cells(example, name), expected, "{name}");
+        let (_, shown_by) = shown.expect("an example for the mutant");
+        assert_eq!(cells(shown_by, name), expected, "{name}");
     }
 }
 

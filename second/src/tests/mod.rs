@@ -1,10 +1,12 @@
 //! The tests: 01's own lines first, then what this program adds.
 
 mod comparison;
+mod draw;
 mod edge;
 mod engine;
 mod errors;
 mod examples;
+mod explain;
 mod faults;
 mod generators;
 mod header;
@@ -18,6 +20,7 @@ use crate::assemble::assemble;
 use crate::papers::verdict_line;
 use crate::rule::Rule;
 use crate::session::play;
+use std::path::Path;
 
 /// The bytes that a text assembles to.
 fn bytes(text: &str) -> Vec<u8> {
@@ -58,4 +61,11 @@ fn job_lines(jobs: &[&str]) -> String {
 /// Output lines parted by a slash, as 01 writes them.
 fn lines(told: &str) -> String {
     told.split(" / ").map(|line| format!("{line}\n")).collect()
+}
+
+/// The text of an example.
+fn example(name: &str) -> String {
+    let folder = Path::new(env!("CARGO_MANIFEST_DIR")).join("../examples");
+    let path = folder.join(name).with_extension("session");
+    std::fs::read_to_string(path).expect("the example")
 }
