@@ -1,6 +1,7 @@
 //! What the turns of a block do, noted as the engine does it: for those who tell of a session.
 
 use crate::counts::{Cell, Place, Ticket};
+use crate::engine::Block;
 use crate::machine::Write;
 use crate::work::{Checkpoint, JobInWork, ListedRead};
 
@@ -64,17 +65,6 @@ pub enum Before {
     SameEntry,
 }
 
-impl Before {
-    /// By the number of the entry that was public, and that of the one that now is.
-    pub fn of(before: Option<usize>, now: usize) -> Before {
-        match before {
-            None => Before::Nothing,
-            Some(entry) if entry == now => Before::SameEntry,
-            Some(_) => Before::AnotherEntry,
-        }
-    }
-}
-
 /// A job's return to a checkpoint: the place there, and what it lost, the marked read first.
 #[derive(Clone, Debug, PartialEq, Eq)]
 pub struct Return {
@@ -116,5 +106,18 @@ impl Log {
     /// The events so far, which are then forgotten.
     pub fn take(&mut self) -> Vec<Event> {
         self.0.as_mut().map(std::mem::take).unwrap_or_default()
+    }
+}
+
+impl Block {
+    /// Notes that a job's journal entry is public, and what was so before.
+    pub fn note_published(&mut self, ticket: Ticket, entry: usize, before: Option<usize>) {
+        let before = match before {
+            None => Before::Nothing,
+            Some(old) if old == entry => Before::SameEntry,
+            Some(_) => Before::AnotherEntry,
+        };
+        let write = self.job(ticket).journal[entry];
+        self.log.note(Event::Published(write, before));
     }
 }

@@ -2,7 +2,7 @@
 
 use crate::counts::{Cell, Table, Ticket};
 use crate::engine::Block;
-use crate::log::{Before, Event, ToldRead};
+use crate::log::{Event, ToldRead};
 use crate::rule::Rule;
 use crate::work::ListedRead;
 use std::collections::BTreeSet;
@@ -45,9 +45,7 @@ impl Block {
                 continue;
             }
             self.job_mut(ticket).public.insert(cell, entry);
-            let write = self.job(ticket).journal[entry];
-            self.log
-                .note(Event::Published(write, Before::of(before, entry)));
+            self.note_published(ticket, entry, before);
             if before != Some(entry) || !self.keeps(Rule::StopMarksForOtherEntryOnly) {
                 self.mark_readers_of_older(ticket, cell);
             }

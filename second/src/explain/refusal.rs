@@ -135,10 +135,8 @@ fn operand_meaning(length: usize, place: Place, at: Instruction) -> Meaning {
             "no later place is there to go to: put STOP or ABANDON after it".to_string()
         }
         Some(Code::Jump | Code::JumpZero) => {
-            format!(
-                "give it a later place of the job, {later} to {}",
-                length - 1
-            )
+            let last = length - 1;
+            format!("give it a later place of the job, from {later} to the last, {last}")
         }
         _ => "give it no operand, or 0".to_string(),
     };

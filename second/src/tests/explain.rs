@@ -1,9 +1,12 @@
 //! Explanations, written from 01 by hand; and random sessions, which are all explained.
 
 use super::{bytes, example, session};
+use crate::counts::{Cell, Ticket};
 use crate::explain::input::Handed;
-use crate::explain::{explanation, tell, Telling};
+use crate::explain::story::{Cause, Change, Deed, How, Story};
+use crate::explain::{explanation, tell, turn_text, Telling};
 use crate::generate::session::random_session;
+use crate::log::{Found, ToldRead};
 use crate::session::play;
 use std::path::Path;
 
@@ -233,7 +236,10 @@ fn operands_and_heights() {
     };
     operand("ADD 5", "give it no operand, or 0");
     operand("DUP 16", "give it an operand from 1 to 15");
-    operand("JUMP 3", "give it a later place of the job, 1 to 2");
+    operand(
+        "JUMP 3",
+        "give it a later place of the job, from 1 to the last, 2",
+    );
     is_refused(
         "job\nJUMP 0\nturns",
         "refused 6 1 0: job 1, place 0 (JUMP 0), line 2: operand outside its column / here: \
@@ -393,4 +399,83 @@ fn random_sessions_are_explained() {
         told_of > 200 && refused > 50,
         "{told_of} told, {refused} refused"
     );
+}
+
+/// The change by which a turn made a cell public.
+fn publishing(story: &Story, turn: usize, cell: Cell) -> Option<&Change> {
+    let made = |change: &&Change| matches!(change.how, How::Newly | How::InPlaceOf(_));
+    let mut changes = story.turns[turn - 1].changes().filter(made);
+    changes.find(|change| change.write.cell == cell)
+}
+
+/// Whether a turn listed this read for this ticket.
+fn lists(story: &Story, turn: usize, ticket: Ticket, read: ToldRead) -> bool {
+    let ToldRead {
+        cell,
+        source,
+        value,
+    } = read;
+    let found = Found::Version(source, value);
+    let reads =
+        |deed: &Deed| matches!(deed, Deed::Read(at, got, _) if (*at, *got) == (cell, found));
+    let turn = &story.turns[turn - 1];
+    turn.ticket == ticket && turn.deeds.iter().any(reads)
+}
+
+/// Whether a deed and the turns that it names belong to each other.
+fn hangs_together(story: &Story, number: usize, deed: &Deed) -> bool {
+    let ticket = story.turns[number - 1].ticket;
+    match deed {
+        Deed::Read(_, Found::Journal(_), from) => from.is_none(),
+        Deed::Read(_, Found::Version(Ticket(0), _), from) => from.is_none(),
+        Deed::Read(_, Found::Listed(_), from) => from.is_some_and(|turn| turn < number),
+        Deed::Read(cell, Found::Version(source, value), from) => from.is_some_and(|turn| {
+            let made = publishing(story, turn, *cell);
+            let is_source = story.turns[turn - 1].ticket == *source && turn < number;
+            is_source && made.is_some_and(|change| change.write.value == *value)
+        }),
+        Deed::Wrote(_) => true,
+        Deed::Changed(change) => change.marks.iter().all(|mark| {
+            let earlier = mark.listed < number && mark.reader > ticket;
+            earlier && lists(story, mark.listed, mark.reader, mark.read)
+        }),
+        Deed::WentBack(back) => {
+            let marked = |cause: &Cause| {
+                let mut changes = story.turns[cause.turn - 1].changes();
+                let by_cause = cause.turn > back.listed && cause.turn < number;
+                by_cause && changes.any(|change| marks(change, ticket, back.listed))
+            };
+            !back.causes.is_empty() && back.causes.iter().all(marked)
+        }
+    }
+}
+
+/// Whether a change marked the read that a turn listed for this ticket.
+fn marks(change: &Change, reader: Ticket, listed: usize) -> bool {
+    let mut marks = change.marks.iter();
+    marks.any(|mark| (mark.reader, mark.listed) == (reader, listed))
+}
+
+/// Every turn that is named as a source or a cause is one.
+#[test]
+fn stories_hang_together() {
+    let (mut reads, mut backs) = (0, 0);
+    for item in 0..400 {
+        let Ok(story) = Story::of(&random_session(13, item)) else {
+            continue;
+        };
+        for (index, turn) in story.turns.iter().enumerate() {
+            for deed in &turn.deeds {
+                let told = || turn_text(&story, index + 1);
+                assert!(
+                    hangs_together(&story, index + 1, deed),
+                    "item {item}, {}",
+                    told()
+                );
+                reads += usize::from(matches!(deed, Deed::Read(_, Found::Version(..), Some(_))));
+                backs += usize::from(matches!(deed, Deed::WentBack(_)));
+            }
+        }
+    }
+    assert!(reads > 500 && backs > 500, "{reads} reads, {backs} backs");
 }
