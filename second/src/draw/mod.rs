@@ -19,6 +19,9 @@ const LINE: Pixels = 20;
 /// No letter of ours is wider than this on average.
 const LETTER: Pixels = 8;
 
+/// The settled cells stand within this width, so that those of a wide picture are seen together.
+const CELLS_WIDTH: Pixels = 1_400;
+
 /// The picture of a session.
 pub fn picture(story: &Story) -> String {
     let mut svg = Svg::default();
@@ -46,7 +49,7 @@ fn draw_cells(svg: &mut Svg, story: &Story, top: Point, width: Pixels) -> Pixels
     }
     let longest = told.iter().map(String::len).max().unwrap_or_default();
     let column = longest * LETTER + RIM;
-    let columns = ((width - RIM) / column).max(1);
+    let columns = ((width.min(CELLS_WIDTH) - RIM) / column).max(1);
     for (index, text) in told.iter().enumerate() {
         let x = top.x + index % columns * column;
         let y = top.y + (index / columns + 1) * LINE;

@@ -66,6 +66,16 @@ fn names_stand_again_in_a_wide_picture() {
     assert_eq!(width(&wide(201)) - width(&wide(101)), 100 * 26);
 }
 
+#[test]
+fn settled_cells_of_a_wide_picture_stand_together() {
+    let cells: String = (0..=255).map(|cell| format!("cell {cell} 1\n")).collect();
+    let svg = picture(&story(&format!("{cells}job\nSTOP\nturns 1x300")));
+    let told: Vec<&str> = svg.lines().filter(|line| line.contains(">cell ")).collect();
+    assert_eq!(told.len(), 256);
+    let right = told.iter().map(|line| number_after(line, "x=\""));
+    assert!(right.max() < Some(1_400), "{told:?}");
+}
+
 /// The number that follows a piece of text.
 fn number_after(text: &str, piece: &str) -> usize {
     let (_, after) = text.split_once(piece).expect("the piece");
