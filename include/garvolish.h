@@ -10,11 +10,11 @@
  * block there may be one call at a time; several of garvolish_settled, which only reads it, may run at once.
  *
  * What a statement leaves open (docs/EXCEPTIONS.md has each case, and why no answer depends on it):
- * - entries past a count: of a stack past its height, of a job's instructions, a journal, versions and reads past their
- *   size, of all that belongs to a job past the block's count, and checkpoints past the listed reads;
- * - the number that an instruction's code does not use, in pushed or in arguments;
- * - padding: the bytes between two fields, which belong to none.
- * Two blocks that stand for the same may differ there: compare them by their parts, not by their bytes.
+ * - padding: the bytes between two fields, which belong to none;
+ * - after a turn that changed the block, entries past a count: of a stack past its height, of a journal, versions and reads
+ *   past their size, and checkpoints past the listed reads.
+ * An opened block is fixed in every part, 0 past every count; no turn changes an instruction, or a final job's status.
+ * Two blocks that stand for the same may differ in what is open: compare them by their parts, not by their bytes.
  */
 #ifndef GARVOLISH_H
 #define GARVOLISH_H
@@ -181,9 +181,9 @@ struct garvolish_journal {
     uint8_t size;
 };
 
-/* The public versions of a job: each is the place of its journal entry. */
+/* The public versions of a job: each is the number of its journal entry, counted from 0. */
 struct garvolish_versions {
-    uint8_t places[GARVOLISH_FEW];
+    uint8_t numbers[GARVOLISH_FEW];
     uint8_t size;
 };
 
@@ -200,7 +200,8 @@ struct garvolish_reads {
     uint8_t mark;
 };
 
-/* The job as it was before a listed read. */
+/* The job as it was before a listed read: checkpoint k, counted from 0, names at most k reads, and no more journal entries than the
+ * next one names, the last no more than the journal holds. More is a misfit. */
 struct garvolish_checkpoint {
     struct garvolish_state state;
     uint8_t writes;

@@ -115,6 +115,37 @@ status: 0 every mutant differs, 1 some never does, 2 bad usage
 example: second mutants --seed 1 --count 2000
 ",
     ),
+    (
+        "bytes",
+        "
+Gives the bytes of a session on standard input, be it text or bytes already.
+
+status: 0 done, 2 the text is not right (line and column are told), or could not be read
+example: second bytes < examples/session-s.session > session.bin
+",
+    ),
+    (
+        "explain",
+        "
+Says in words, turn by turn, what happened in a session (text or bytes, on standard input), or why it was refused.
+
+  --played FILE  what the proved program printed for it
+
+status: 0 told, 1 the session is refused, 2 bad usage or bad text, 3 the two programs differ
+example: second explain --played played.txt < session.bin
+",
+    ),
+    (
+        "draw",
+        "
+Draws what happened in a session (text or bytes, on standard input), as SVG. There is no picture of a refused session.
+
+  --played FILE  what the proved program printed for it
+
+status: 0 drawn, 1 the session is refused, 2 bad usage or bad text, 3 the two programs differ
+example: second draw --played played.txt < session.bin > session.svg
+",
+    ),
 ];
 
 /// The usage of each command, without the program's name.

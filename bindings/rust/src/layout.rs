@@ -47,11 +47,11 @@ pub struct Journal {
     pub size: u8,
 }
 
-/// The public versions of a job: each is the place of its journal entry.
+/// The public versions of a job: each is the number of its journal entry.
 #[repr(C)]
 #[derive(Clone, Copy, PartialEq, Eq)]
 pub struct Versions {
-    pub places: [u8; FEW],
+    pub numbers: [u8; FEW],
     pub size: u8,
 }
 

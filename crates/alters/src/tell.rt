@@ -6,8 +6,8 @@ use machine::counts::Ticket;
 use turns::block::Block;
 use turns::settled::Settling;
 use turns::settled::settled_table;
-use turns::word::Word;
 use turns::turn::turn;
+use turns::word::Word;
 
 // What each cell of a lent table holds: no block here settles a cell to it.
 pub(crate) const LENT: u64 = 18446744073709551615;

@@ -218,7 +218,12 @@ fn bring_to(known: [Met; Job::LONGEST as usize], t: u64, h: u8) -> [Met; Job::LO
     k
 }
 
-fn bring_if(known: [Met; Job::LONGEST as usize], leads: bool, t: u64, h: u8) -> [Met; Job::LONGEST as usize]
+fn bring_if(
+    known: [Met; Job::LONGEST as usize],
+    leads: bool,
+    t: u64,
+    h: u8,
+) -> [Met; Job::LONGEST as usize]
     requires { ⌜ (leads ≡ true → t < LONGEST) ⌝ }
     ensures { λ r. ⌜ r ≡ bring leads t h known ⌝ }
 {
@@ -229,7 +234,12 @@ fn bring_if(known: [Met; Job::LONGEST as usize], leads: bool, t: u64, h: u8) -> 
 }
 
 // What an instruction that passed at its place brings to the places that it leads to.
-fn lead_from(i: Instruction, place: Place, m: Met, known: [Met; Job::LONGEST as usize]) -> [Met; Job::LONGEST as usize]
+fn lead_from(
+    i: Instruction,
+    place: Place,
+    m: Met,
+    known: [Met; Job::LONGEST as usize],
+) -> [Met; Job::LONGEST as usize]
     requires { ⌜ (Fitting (place .0) i) × (entriesOf ROOM i (place .0) m ≡ sound) ⌝ }
     ensures { λ r. ⌜ r ≡ lead i (place .0) m known ⌝ }
 {

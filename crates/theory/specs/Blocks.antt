@@ -1,5 +1,5 @@
 -- A turn of a block is a change of one job, or none; so the invariant holds of every block that an opening and turns gave.
--- A block's jobs are a list, and a place past its end holds a fresh job that nothing marks: so the list behaves as a function of the place.
+-- A block's jobs are a list, and an index past its end holds a fresh job that nothing marks: so the list behaves as a function of the index.
 use mathlib.Core.Path.{_≡_, refl, sym, ap, _∙_, subst₂, fun-ext}
 use mathlib.Core.Logic.{_⊎_, inl, inr}
 use mathlib.Core.Bool.{Bool, true, false, cond, _||_}
@@ -35,7 +35,7 @@ change-same st i k = go (ℕ-discrete k i) (decLt k i)
 module _ (L : Limits) (M : Machine) where
   open Machine M using (S, nowhere)
 
-  -- ---- the job at place i becomes j
+  -- ---- the job at index i becomes j
   abbrev pub changedBlock : Block S → ℕ → Job S → Block S
   changedBlock b i j = record { table = b .table; jobs = changed (b .jobs) i (jobAt L M b i) j }
 

@@ -1,5 +1,5 @@
 -- Document 01, "One turn": the plain engine over any machine, any number of jobs and cells. Everything is executable.
--- The job at place k of a block has ticket k + 1; ticket 0 is the start table.
+-- The job at index k of a block has ticket k + 1; ticket 0 is the start table.
 use mathlib.Core.Bool.{Bool, true, false, cond, _&&_, _||_}
 use mathlib.Core.Option.{Option, none, some}
 use mathlib.Core.List.{List, [], _∷_, _++_, map}
@@ -31,7 +31,7 @@ pub record Read (S : Type 0) : Type 0 where
 pub data Status : Type 0 where
   running ended final : Status
 
--- the mark is the earliest marked read, since only that counts; a public version is the place of its journal entry
+-- the mark is the earliest marked read, since only that counts; a public version is the number of its journal entry
 pub record Job (S : Type 0) : Type 0 where
   pub state : S
   pub journal : List Entry
@@ -62,12 +62,12 @@ next (some k) = some (suc k)
 next none = none
 
 -- ---- the journal
--- the place of the last entry for a cell
+-- the number of the last entry for a cell
 abbrev pub lastAt : List Entry → ℕ → Option ℕ
 lastAt [] c = none
 lastAt (e ∷ es) c = orElse (next (lastAt es c)) (cond (eqb (e .cell) c) (some zero) none)
 
--- the value of the entry at a place
+-- the value of the entry with a number
 abbrev pub valueAt : List Entry → Option ℕ → Option ℕ
 valueAt j (some k) = some (getD j k noEntry .value)
 valueAt j none = none
@@ -79,13 +79,13 @@ abbrev pub writes? : List Entry → ℕ → Bool
 writes? [] c = false
 writes? (e ∷ es) c = eqb (e .cell) c || writes? es c
 
--- the places of the entries that are the last of their cell, where the journal starts at place k
+-- the numbers of the entries that are the last of their cell, where the first has number k
 abbrev pub lastsFrom : ℕ → List Entry → List ℕ
 lastsFrom k [] = []
 lastsFrom k (e ∷ es) = cond (writes? es (e .cell)) (lastsFrom (suc k) es) (k ∷ lastsFrom (suc k) es)
 
 -- ---- public versions
--- the place from which the versions vs of a journal show a cell
+-- the entry from which the versions vs of a journal show a cell
 abbrev pub shownAt : List Entry → List ℕ → ℕ → Option ℕ
 shownAt j [] c = none
 shownAt j (v ∷ vs) c = cond (eqb (getD j v noEntry .cell) c) (some v) (shownAt j vs c)
@@ -94,12 +94,12 @@ shownAt j (v ∷ vs) c = cond (eqb (getD j v noEntry .cell) c) (some v) (shownAt
 abbrev pub published : List Entry → List ℕ
 published j = lastsFrom zero j
 
--- going back withdraws what came from the entries past place n
+-- going back withdraws what came from the n-th entry on
 abbrev pub withdrawn : ℕ → List ℕ → List ℕ
 withdrawn n [] = []
 withdrawn n (v ∷ vs) = cond (ltb v n) (v ∷ withdrawn n vs) (withdrawn n vs)
 
--- a version found, of the job at place k; or what stands lower
+-- a version found, of the job at index k; or what stands lower
 abbrev pub found : Option ℕ → ℕ → ℕ × ℕ → ℕ × ℕ
 found (some v) k lower = (suc k, v)
 found none k lower = lower
@@ -110,7 +110,7 @@ search start version zero = (zero, start)
 search start version (suc k) = found (version k) k (search start version k)
 
 -- ---- marks
--- where ticket t showed a cell from place `before` and shows it from `after`: is a higher job's read of it, with this source, to be marked?
+-- where ticket t showed a cell from entry `before` and shows it from `after`: is a higher job's read of it, with this source, to be marked?
 -- newly, or from another entry: sources t or lower; withdrawn: source t
 abbrev pub struck : Option ℕ → Option ℕ → ℕ → ℕ → Bool
 struck none none t source = false
@@ -136,7 +136,7 @@ module _ {S : Type 0} where
   abbrev pub version : Job S → ℕ → Option ℕ
   version b c = valueAt (b .journal) (shown b c)
 
-  -- what a reader with the jobs at places 0 to k - 1 below it finds: the source ticket and the value
+  -- what a reader with the jobs at the indices 0 to k - 1 below it finds: the source ticket and the value
   abbrev pub find : (ℕ → ℕ) → (ℕ → Job S) → ℕ → ℕ → ℕ × ℕ
   find table st c k = search (table c) (λ j. version (st j) c) k
 
@@ -164,11 +164,11 @@ module _ {S : Type 0} where
         status = b .status;
       }
 
-  -- the job o at place i becomes b: lower jobs stay, and higher jobs are marked where i's versions changed
+  -- the job o at index i becomes b: lower jobs stay, and higher jobs are marked where i's versions changed
   abbrev pub changed : List (Job S) → ℕ → Job S → Job S → List (Job S)
   changed js i o b = take i js ++ (b ∷ map (markJob (shown o) (shown b) (suc i)) (drop (suc i) js))
 
-  -- are all jobs below place k final?
+  -- are all jobs below index k final?
   abbrev pub allFinal : (ℕ → Job S) → ℕ → Bool
   allFinal st zero = true
   allFinal st (suc k) = isFinal (st k .status) && allFinal st k
@@ -236,7 +236,7 @@ module _ (few : ℕ) (M : Machine) (table : ℕ → ℕ) where
   readStep b c none (some v) f = moved W.step (stepTo b (given (b .state) v))
   readStep b c none none f = cond (ltb (length (b .reads)) few) (moved W.step (listTo b (given (b .state) (f .1)) (listing b c f))) (moved W.stuck b)
 
-  -- one instruction of the job b at place i, or its end
+  -- one instruction of the job b at index i, or its end
   abbrev pub instructed : (ℕ → Job S) → ℕ → Job S → Act S → Moved S
   instructed st i b (nothing s) = moved W.step (stepTo b s)
   instructed st i b (read c) = readStep b c (lastValue (b .journal) c) (listedValue (b .reads) c) (find table st c i)
@@ -276,8 +276,8 @@ module _ (L : Limits) (M : Machine) where
   writesAfter [] n = n
   writesAfter (r ∷ rs) n = r .checkpoint .writes
 
-  -- the reads from the k-th on, of a job with n journal entries: a checkpoint is the job as it was before its read,
-  -- so it holds no more reads than stand before it, and no more entries than the next checkpoint
+  -- the reads from the k-th on, of a job with n journal entries: a checkpoint is the job as it was before its read, so it names at most the k reads
+  -- before it, and no more entries than the next one names. Two versions of one cell are no misfit: the first is shown. (DECISIONS.md says both readings)
   abbrev pub readsFit : ℕ → ℕ → List (Read S) → Bool
   readsFit n k [] = true
   readsFit n k (r ∷ rs) =

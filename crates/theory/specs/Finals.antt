@@ -155,7 +155,7 @@ module _ (L : Limits) (M : Machine) where
     pub lower-final : (k i : ℕ) → i < k → jobAt L M b k .status ≡ final → jobAt L M b i .status ≡ final
     lower-final k i h e = allFinal-at (jobAt L M b) k (s .invariant k .settled e .1) i h
 
-    -- the job at place i is final exactly if i is below f
+    -- the job at index i is final exactly if i is below f
     pub final-iff : (i : ℕ) → (i < finals L M (b .jobs)) ↔ (jobAt L M b i .status ≡ final)
     final-iff i = front (b .jobs) lower-final i
 

@@ -39,7 +39,7 @@ module _ {S : Type 0} where
   allFinal-of st zero h = refl
   allFinal-of st (suc k) h = rw (h k (omega arith)) (allFinal-of st k (λ i l. h i (omega arith)))
 
--- ---- the job at place i becomes b, in a block as a function of the place
+-- ---- the job at index i becomes b, in a block as a function of the index
 module _ {S : Type 0} where
   unfoldable pub change : (ℕ → Job S) → ℕ → Job S → ℕ → Job S
   change st i b k = cond (eqb k i) b (cond (ltb k i) (st k) (markJob (shown (st i)) (shown b) (suc i) (st k)))
@@ -84,7 +84,7 @@ module _ (M : Machine) (table : ℕ → ℕ) (start : ℕ → M .S) where
   abbrev pub Stands : Job S → Type 0
   Stands b = ((act (b .state) ≡ stop) × ((c : ℕ) → shown b c ≡ lastAt (b .journal) c)) ⊎ ((act (b .state) ≡ abandon) × ((c : ℕ) → shown b c ≡ none))
 
-  -- the job b at place k is right in the block st
+  -- the job b at index k is right in the block st
   pub record Good (st : ℕ → Job S) (k : ℕ) (b : Job S) : Type 0 where
     pub ran : Ran M (start k) (b .reads) (b .journal) (b .state)
     pub fresh : Every (Fresh st k) (beforeMark (b .mark) (b .reads))
@@ -96,7 +96,7 @@ module _ (M : Machine) (table : ℕ → ℕ) (start : ℕ → M .S) where
   abbrev pub Invariant : (ℕ → Job S) → Type 0
   Invariant st = (k : ℕ) → Good st k (st k)
 
-  -- a move of the job at place i from o to b is right: what it goes on showing from the same place keeps its value, and a final job stays as it is
+  -- a move of the job at index i from o to b is right: what it goes on showing from the same entry keeps its value, and a final job stays as it is
   pub record RightMove (st : ℕ → Job S) (i : ℕ) (o b : Job S) : Type 0 where
     pub good : Good st i b
     pub same-value : (c : ℕ) → shown b c ≡ shown o c → version b c ≡ version o c

@@ -74,7 +74,7 @@ module _ {S : Type 0} where
   pub mark-fits : (before after : ℕ → Option ℕ) (t : ℕ) (b : Job S) → markFits (b .mark) (length (b .reads)) ≡ true → markFits (markJob before after t b .mark) (length (b .reads)) ≡ true
   mark-fits before after t b e = earlier-fits (firstStruck (isStruck before after t) (b .reads)) (b .mark) (length (b .reads)) (firstStruck-fits (isStruck before after t) (b .reads)) e
 
-  -- what is shown from the same places marks nobody
+  -- what is shown from the same entries marks nobody
   pub same-marks-none : (w : ℕ → Option ℕ) (t : ℕ) (rs : List (Read S)) → firstStruck (isStruck w w t) rs ≡ none
   same-marks-none w t [] = refl
   same-marks-none w t (r ∷ rs) = rw (struck-same (w (r .cell)) t (r .source), same-marks-none w t rs) refl

@@ -1,4 +1,4 @@
--- What a job's versions show, and what the version search finds. A version is the place of a journal entry, so it keeps its value while that entry stays;
+-- What a job's versions show, and what the version search finds. A version is the number of a journal entry, so it keeps its value while that entry stays;
 -- and a search goes down from its start and stops at the first version, so a change of one job's version is seen only by a search that ends at or below it.
 use mathlib.Core.Path.{_≡_, refl, sym, ap, _∙_}
 use mathlib.Core.Logic.{_≢_, _⊎_, inl, inr}

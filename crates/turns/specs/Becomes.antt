@@ -15,7 +15,7 @@ use Rattle.turns.specs.Box.{box, limits}
 use Rattle.turns.specs.Block.{jobOf, blockOf}
 use Rattle.turns.specs.declared.block.Block.{Block}
 
--- the block b has become r, in which the job at place i is j: lower jobs stayed, and higher ones are marked where i's versions changed
+-- the block b has become r, in which the job at index i is j: lower jobs stayed, and higher ones are marked where i's versions changed
 pub record Becomes (b r : Block) (i : ℕ) (j : E.Job Running) : Type 0 where
   pub table : r .start ≡ b .start
   pub count : r .count ≡ b .count
@@ -23,7 +23,7 @@ pub record Becomes (b r : Block) (i : ℕ) (j : E.Job Running) : Type 0 where
   pub lower : (k : ℕ) → k < i → jobOf r k ≡ jobOf b k
   pub higher : (k : ℕ) → i < k → k < b .count → jobOf r k ≡ markJob (shown (jobOf b i)) (shown j) (suc i) (jobOf b k)
 
--- a move after which the job shows each cell from the same place marks nobody
+-- a move after which the job shows each cell from the same entry marks nobody
 pub unmarking : (o j d : E.Job Running) (t : ℕ) → ((c : ℕ) → shown j c ≡ shown o c) → markJob (shown o) (shown j) t d ≡ d
 unmarking o j d t same = rw (fun-ext same, same-marks-none (shown o) t (d .reads)) refl
 

@@ -37,15 +37,15 @@ checkpointOf is c = record { state = runningOf is (c .state); writes = c .writes
 abbrev pub readOf : List Instruction → Read → Checkpoint → E.Read Running
 readOf is r c = record { cell = r .cell .0; source = r .source .0; value = r .value; checkpoint = checkpointOf is c }
 
--- the listed reads of the job at place k, whose checkpoints stand from 8 * k on
+-- the listed reads of the job at index k, whose checkpoints stand from 8 * k on
 unfoldable pub readsOf : List Instruction → Reads → List Checkpoint → ℕ → List (E.Read Running)
 readsOf is rs cs k = tab (rs .size) (λ i. readOf is (getD (rs .reads) i noRead) (getD cs (8 * k + i) noCheckpoint))
 
--- the instructions of the job at place k
+-- the instructions of the job at index k
 abbrev pub codeAt : Block → ℕ → List Instruction
 codeAt b k = programOf (getD (b .jobs) k noProgram)
 
--- the job at place k
+-- the job at index k
 unfoldable pub jobOf : Block → ℕ → E.Job Running
 jobOf b k = record {
   state = runningOf (codeAt b k) (getD (b .states) k noState);

@@ -26,7 +26,7 @@ use Rattle.turns.specs.declared.block.Program.{Program}
 use Rattle.turns.specs.declared.block.Block.{Block}
 use Rattle.turns.specs.declared.sizes.Kept.{Kept}
 
--- the job at place k: its state, its journal and versions, its reads, and for each listed read the checkpoint to go back to
+-- the job at index k: its state, its journal and versions, its reads, and for each listed read the checkpoint to go back to
 pub record Fit (b : Block) (k : ℕ) : Type 0 where
   pub code : getD (b .jobs) k noProgram .size ≤ 64
   pub place : getD (b .states) k noState .place .0 < getD (b .jobs) k noProgram .size

@@ -18,7 +18,7 @@ pub record Sized (b : Block) : Type 0 where
   pub showing : ShowingBelow (b .journals) (b .versions) (b .count)
   pub lists : ListsFit (b .reads) (b .count)
 
--- a checkpoint that the job at place i holds
+-- a checkpoint that the job at index i holds
 pub record Held (b : Block) (i : ℕ) (c : Checkpoint) : Type 0 where
   pub writes : c .writes ≤ getD (b .journals) i noJournal .size
   pub listed : c .listed ≤ getD (b .reads) i noReads .size
@@ -30,7 +30,7 @@ pub record Adds (r : Reads) (x : Read) (l : Reads) : Type 0 where
   pub size : l .size ≡ r .size + 1
   pub mark : l .mark ≡ r .mark
 
--- the read x as the job at place i lists it, with its checkpoint
+-- the read x as the job at index i lists it, with its checkpoint
 abbrev pub listingOf : Block → ℕ → Read → E.Read Running
 listingOf b i x =
     readOf (codeAt b i) x (record { state = getD (b .states) i noState; writes = getD (b .journals) i noJournal .size; listed = getD (b .reads) i noReads .size })

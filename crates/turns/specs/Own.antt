@@ -72,8 +72,8 @@ pub record Lists (o : Own) (s : State) (x : Read) (m : Move) : Type 0 where
   pub adds : Adds (o .list) x (m .own .list)
   pub move : m ≡ listed o s (m .own .list) (record { state = o .state; writes = o .journal .size; listed = o .list .size })
 
--- ---- the parts of the job at place i of a block
--- where the checkpoint of the n-th read of the job at place i stands; past the last of its eight, the last
+-- ---- the parts of the job at index i of a block
+-- where the checkpoint of the n-th read of the job at index i stands; past the last of its eight, the last
 abbrev pub slotAt : ℕ → ℕ → ℕ
 slotAt i n = 8 * i + cond (leb 8 n) 7 n
 
@@ -99,7 +99,7 @@ showsOf o = record { journal = o .journal; versions = o .versions }
 abbrev pub markedBy : Bool → List Reads → ℕ → Shows → Shows → ℕ → List Reads
 markedBy x ls n old new t = cond x (sweep (markReads old new t) t (n - t) ls) ls
 
--- a move of the job at place i stored in its block, the slot at s, with these lists of reads
+-- a move of the job at index i stored in its block, the slot at s, with these lists of reads
 abbrev pub storedAt : Block → ℕ → ℕ → Move → List Reads → Block
 storedAt b i s m ls = record {
   start = b .start;

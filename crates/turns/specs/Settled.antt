@@ -23,12 +23,12 @@ use Rattle.turns.specs.declared.settled.Settled.{Settled}
 unfoldable pub finalOne : ℕ → ℕ
 finalOne s = cond (leb 2 s) 1 0
 
--- how many of the jobs at the places below k are final
+-- how many of the jobs at the indices below k are final
 unfoldable pub finalsBelow : List ℕ → ℕ → ℕ
 finalsBelow ss zero = 0
 finalsBelow ss (suc k) = finalsBelow ss k + finalOne (getD ss k 0)
 
--- the value that a reader of cell c finds that has the jobs at the places below n below it
+-- the value that a reader of cell c finds that has the jobs at the indices below n below it
 unfoldable pub cellFound : Block → ℕ → ℕ → ℕ
 cellFound b n c = foundIn (b .journals) (b .versions) (getD (b .start) c 0) c n .1
 
@@ -44,7 +44,7 @@ pub record Showed (j : Journal) (v : Versions) (before after : List ℕ) : Type 
   pub size : length after ≡ CELLS
   pub cells : cellsOf after ≡ shownOver j (versionsOf v) (cellsOf before)
 
--- what the jobs at the places below n show can be read
+-- what the jobs at the indices below n show can be read
 pub record Settleable (b : Block) (n : ℕ) : Type 0 where
   pub showing : (k : ℕ) → k < n → Showing (getD (b .journals) k noJournal) (getD (b .versions) k noVersions)
   pub inside : (k : ℕ) → k < n → InTable (getD (b .journals) k noJournal)

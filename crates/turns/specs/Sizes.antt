@@ -97,7 +97,7 @@ unfoldable pub jobWithin : Program → State → Journal → Versions → Reads 
 jobWithin j s jo v rs cs =
     codeWithin j && standsIn (j .size) (s .place .0) (s .stack .height) && journalWithin jo && versionsWithin (jo .size) v && readsWithin (j .size) (jo .size) rs cs && markWithin (rs .mark) (rs .size)
 
--- the job at place k
+-- the job at index k
 abbrev pub jobWithinAt : Block → ℕ → Bool
 jobWithinAt b k =
     jobWithin (getD (b .jobs) k noProgram) (getD (b .states) k noState) (getD (b .journals) k noJournal) (getD (b .versions) k noVersions) (getD (b .reads) k noReads)

@@ -1,4 +1,4 @@
--- One turn on the code's block: the words, what a move does, and the plain moves of the job at a place.
+-- One turn on the code's block: the words, what a move does, and the plain moves of the job at an index.
 use mathlib.Core.Path.{_≡_}
 use mathlib.Core.Bool.{Bool, true, false, cond, _&&_, _||_}
 use mathlib.Core.Option.{Option, none, some}
@@ -44,12 +44,12 @@ listedFrom r c k (suc m) = cond (eqb (getD (r .reads) k noRead .cell .0) c) (som
 abbrev pub listedIn : Reads → ℕ → Option ℕ
 listedIn r c = listedFrom r c 0 (r .size)
 
--- are the jobs at the places below k final?
+-- are the jobs at the indices below k final?
 unfoldable pub finalBelow : List ℕ → ℕ → Bool
 finalBelow ss zero = true
 finalBelow ss (suc k) = leb 2 (getD ss k 0) && finalBelow ss k
 
--- ---- the plain moves of the job at place i
+-- ---- the plain moves of the job at index i
 abbrev pub jobs : Block → ℕ → E.Job Running
 jobs b = E.jobAt limits box (blockOf b)
 
@@ -82,7 +82,7 @@ foreign n t = eqb t 0 || ltb n t
 abbrev pub refusing : Bool → Word
 refusing x = cond x BadTicket Stuck
 
--- the code's answer is this move of the job at place i; what the words leave, they leave to the last byte
+-- the code's answer is this move of the job at index i; what the words leave, they leave to the last byte
 pub record Did (b : Block) (i : ℕ) (m : E.Moved Running) (r : Turned) : Type 0 where
   pub word : wordOf (r .word) ≡ m .word
   pub block : blockOf (r .block) ≡ E.moveTo limits box (blockOf b) i (m .word) (m .job) .block
@@ -120,7 +120,7 @@ pub record Whole (b : Block) : Type 0 where
   pub marked : (k : ℕ) → k < b .count → (getD (b .reads) k noReads .mark ≡ 255 → ⊥) → getD (b .reads) k noReads .mark < getD (b .reads) k noReads .size
   pub held : (k i : ℕ) → k < b .count → i < getD (b .reads) k noReads .size → Held b k (getD (b .checkpoints) (8 * k + i) noCheckpoint)
 
--- the job at place i is marked, at one of its reads
+-- the job at index i is marked, at one of its reads
 pub record Marked (b : Block) (i : ℕ) : Type 0 where
   pub at : getD (b .reads) i noReads .mark < getD (b .reads) i noReads .size
   pub low : getD (b .reads) i noReads .mark < 8

@@ -71,15 +71,15 @@ pub record Showing (j : Journal) (v : Versions) : Type 0 where
   pub numbers : v .size ≤ 8
   pub named : (k : ℕ) → k < v .size → getD (v .numbers) k 0 < j .size
 
--- .. of the jobs at the places below n
+-- .. of the jobs at the indices below n
 pub record ShowingBelow (js : List Journal) (vs : List Versions) (n : ℕ) : Type 0 where
   pub showing : (k : ℕ) → k < n → Showing (getD js k noJournal) (getD vs k noVersions)
 
--- the version of a cell that the job at place k shows
+-- the version of a cell that the job at index k shows
 unfoldable pub versionAt : List Journal → List Versions → ℕ → ℕ → Option ℕ
 versionAt js vs k c = E.valueAt (journalOf (getD js k noJournal)) (E.shownAt (journalOf (getD js k noJournal)) (versionsOf (getD vs k noVersions)) c)
 
--- what a reader of a cell finds that has the jobs at the places below n below it
+-- what a reader of a cell finds that has the jobs at the indices below n below it
 unfoldable pub foundIn : List Journal → List Versions → ℕ → ℕ → ℕ → ℕ × ℕ
 foundIn js vs start c n = E.search start (λ k. versionAt js vs k c) n
 
@@ -90,11 +90,11 @@ valueOf Nothing = none
 unfoldable pub versionOf : Version → ℕ × ℕ
 versionOf v = (v .source .0, v .value)
 
--- the entry at place k as a version, if it is the last of its cell
+-- the k-th entry as a version, if it is the last of its cell
 unfoldable pub lastOne : List E.Entry → ℕ → List ℕ
 lastOne j k = cond (E.writes? (drop (suc k) j) (getD j k E.noEntry .cell)) [] (k ∷ [])
 
--- the version that names place v, if it stands before the n-th entry
+-- the version that names entry v, if it stands before the n-th entry
 unfoldable pub keptOne : ℕ → ℕ → List ℕ
 keptOne n v = cond (ltb v n) (v ∷ []) []
 

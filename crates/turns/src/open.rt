@@ -66,7 +66,11 @@ fn no_reads() -> Reads
 }
 
 // The first count jobs, each at its start.
-fn fresh_block(table: [u64; Cell::COUNT as usize], count: u8, jobs: [Program; Job::MOST as usize]) -> Block
+fn fresh_block(
+    table: [u64; Cell::COUNT as usize],
+    count: u8,
+    jobs: [Program; Job::MOST as usize],
+) -> Block
     ensures { λ r. ⌜ r ≡ filledBlock table count jobs ⌝ }
 {
     let state = Job::fresh();

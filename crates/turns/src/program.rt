@@ -72,7 +72,10 @@ fn program_of(job: Job) -> Program
 }
 
 // The first count jobs in bytes.
-pub(crate) fn programs_of(jobs: [Job; Job::MOST as usize], count: u8) -> [Program; Job::MOST as usize]
+pub(crate) fn programs_of(
+    jobs: [Job; Job::MOST as usize],
+    count: u8,
+) -> [Program; Job::MOST as usize]
     requires { ⌜ (count ≤ JOBS) × AllPass jobs count ⌝ }
     ensures { λ r. ⌜ r ≡ allPacked (firstJobs count jobs) ⌝ }
 {

@@ -69,7 +69,11 @@ fn next_places() -> [u8; Job::LONGEST as usize]
 }
 
 // A job's instructions are few, and each keeps to 5 and 6.
-fn code_fits(codes: [u8; Job::LONGEST as usize], arguments: [u8; Job::LONGEST as usize], size: u8) -> bool
+fn code_fits(
+    codes: [u8; Job::LONGEST as usize],
+    arguments: [u8; Job::LONGEST as usize],
+    size: u8,
+) -> bool
     ensures { λ r. ⌜ r ≡ bytesWithin codes arguments size ⌝ }
 {
     if Job::LONGEST < size {

@@ -349,9 +349,9 @@ fn neither_text_nor_bytes() {
     for (input, complaint) in [
         (
             &b"\x00\x00\x00"[..],
-            "line 1, column 1: `\0\0\0` is no word of the text form",
+            "line 1, column 1: \0\0\0: no such word of the text form",
         ),
-        (b"job\n FOO", "line 2, column 2: `FOO` is no instruction"),
+        (b"job\n FOO", "line 2, column 2: FOO: no such instruction"),
         (b"\xff", "line 1, column 1: not UTF-8 text"),
     ] {
         let why = Handed::from(input.to_vec()).err().expect("a complaint");

@@ -31,7 +31,7 @@ fn journal_and_version() {
     let work = block().work;
     let Entry { cell, value } = work.journals[0].entries[0];
     assert_eq!((work.journals[0].size, cell, value), (1, 5, 7));
-    assert_eq!((work.versions[0].size, work.versions[0].places[0]), (1, 0));
+    assert_eq!((work.versions[0].size, work.versions[0].numbers[0]), (1, 0));
 }
 
 #[test]

@@ -1,4 +1,4 @@
--- The moves: a store at place i changes that job alone, a sweep changes the marks above it, and these are the plain moves.
+-- The moves: a store at index i changes that job alone, a sweep changes the marks above it, and these are the plain moves.
 use mathlib.Core.Path.{_≡_, refl, ap, sym, _∙_, fun-ext}
 use mathlib.Core.Bool.{Bool, true, false, cond}
 use mathlib.Core.Option.{Option, none, some}
@@ -240,7 +240,7 @@ sweep-inside f (suc m) k rs x a l w = go (ℕ-discrete x k) (sweep-inside f m (s
     go (yes e) ih = rw e (sweep-before f m (suc k) (set rs k (f (getD rs k noReads))) k (omega arith) ∙ getD-set-same rs k (f (getD rs k noReads)) noReads (omega arith))
     go (no n) ih = ih (omega arith) (omega arith) (rw length-set w) ∙ ap f (getD-set-other rs k x (f (getD rs k noReads)) noReads n)
 
--- the job at place k with other reads
+-- the job at index k with other reads
 abbrev withReads : Block → ℕ → Reads → E.Job Running
 withReads b k rs =
     record { state = jobOf b k .state; journal = jobOf b k .journal; versions = jobOf b k .versions; reads = readsOf (codeAt b k) rs (b .checkpoints) k; mark = markOf (rs .mark); status = jobOf b k .status }

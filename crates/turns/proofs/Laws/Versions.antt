@@ -1,4 +1,4 @@
--- Public versions: a list of places is built by adding at its end, and what a loop has still to look at is the rest of the list.
+-- Public versions: a list of entry numbers is built by adding at its end, and what a loop has still to look at is the rest of the list.
 use mathlib.Core.Path.{_≡_, refl, ap, sym, _∙_}
 use mathlib.Core.Bool.{Bool, true, false, cond}
 use mathlib.Core.Option.{Option, none, some}
@@ -179,7 +179,7 @@ withdraw-start v w n e = rw e refl
 pub ruleset withdraw-laws = (withdraw-start, start-size, withdraw-on, withdraw-size, withdraw-end)
 
 -- ---- the version that a reader finds
--- a place that is shown is one of the versions
+-- an entry that is shown is one of the versions
 shown-listed : (es : List E.Entry) (vs : List ℕ) (n c p : ℕ) → ((k : ℕ) → k < length vs → getD vs k 0 < n) → shownAt es vs c ≡ some p → p < n
 shown-listed es [] n c p h e = absurd (let z : _≡_ {A = ℕ} 0 1 = cc in omega arith)
 shown-listed es (v ∷ vs) n c p h e = go (eqb (getD es v E.noEntry .cell) c) e (shown-listed es vs n c p (λ k l. h (suc k) (omega arith)))

@@ -12,7 +12,7 @@ use Rattle.turns.specs.declared.word.Word.the-variants.{Idle, Back, Step
 use Rattle.turns.proofs.Laws.Alone.{not-both}
 
 -- ---- a move with its word
--- the place of a ticket of the block
+-- the index of a ticket of the block
 pub inside-of : (n t : ℕ) → 0 < t → t ≤ n → t - 1 < n
 inside-of n t p l = omega arith
 

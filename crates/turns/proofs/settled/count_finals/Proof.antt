@@ -1,4 +1,4 @@
--- f is the number of final jobs at the places below k,
+-- f is the number of final jobs at the indices below k,
 -- and the job at k adds one where it is final.
 use mathlib.Core.Path.{_≡_}
 use Prim.Native.Nat.{_≤_, _-_}
