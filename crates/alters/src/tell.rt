@@ -7,7 +7,7 @@ use turns::block::Block;
 use turns::settled::Settling;
 use turns::settled::settled_table;
 use turns::turn::turn;
-use turns::word::Word;
+use words::word::Word;
 
 // What each cell of a lent table holds: no block here settles a cell to it.
 pub(crate) const LENT: u64 = 18446744073709551615;

@@ -11,7 +11,7 @@ use Rattle.machine.specs.declared.verdict.Fault.{Fault}
 use Rattle.turns.specs.Open.{openingOf, Opens}
 use Rattle.turns.specs.SerialRun.{Serves}
 use Rattle.turns.specs.Turn.{wordOf}
-use Rattle.turns.specs.declared.word.Word.{Word}
+use Rattle.words.specs.declared.word.Word.{Word}
 use Rattle.turns.specs.Change.{changed, Changes}
 use Rattle.turns.specs.declared.block.Block.{Block}
 use Rattle.turns.specs.declared.open.Opened.{Opened}

@@ -10,7 +10,7 @@ use turns::open::open;
 use turns::serial::run_serially;
 use turns::settled::Settling;
 use turns::settled::settled_table;
-use turns::word::Word;
+use words::word::Word;
 ghost use mathlib.Core.Path.{_≡_};
 ghost use Prim.Native.Nat.{_≤_};
 ghost use Rattle.machine.specs.View.{number};

@@ -30,8 +30,8 @@ use Rattle.turns.specs.declared.block.Read.{Read}
 use Rattle.turns.specs.declared.block.Reads.{Reads}
 use Rattle.turns.specs.declared.block.Block.{Block}
 use Rattle.turns.specs.declared.marks.Shows.{Shows}
-use Rattle.turns.specs.declared.word.Word.{Word}
-use Rattle.turns.specs.declared.word.Word.the-variants.{Back, Step, End, Final}
+use Rattle.words.specs.declared.word.Word.{Word}
+use Rattle.words.specs.declared.word.Word.the-variants.{Back, Step, End, Final}
 use Rattle.turns.specs.declared.turn.Turned.{Turned}
 use Rattle.turns.specs.declared.own.Own.{Own}
 use Rattle.turns.specs.declared.own.Around.{Around}

@@ -8,6 +8,8 @@ use lib.Dec.{eqb, leb, ltb}
 use lib.ListN.{length, getD}
 use Rattle.theory.specs.Word as W
 unfoldable pub use Rattle.theory.specs.Word.{leaves}
+unfoldable pub use Rattle.words.specs.Words.{wordOf}
+use Rattle.words.specs.Words.{refusalOf}
 use Rattle.theory.specs.Promise.{read}
 use Rattle.theory.specs.Engine as E
 use Rattle.machine.specs.Limits.{ROOM, FEW}
@@ -22,19 +24,9 @@ use Rattle.turns.specs.Moves.{Sized, Held}
 use Rattle.turns.specs.declared.block.Entry.{Entry}
 use Rattle.turns.specs.declared.block.Reads.{Reads}
 use Rattle.turns.specs.declared.block.Block.{Block}
-use Rattle.turns.specs.declared.word.Word.{Word}
-use Rattle.turns.specs.declared.word.Word.the-variants.{Idle, Back, Step, End, Final, Wait, BadTicket, Stuck}
+use Rattle.words.specs.declared.word.Word.{Word}
+use Rattle.words.specs.declared.word.Word.the-variants.{Idle, Back, Step, End, Final, Wait, BadTicket, Stuck}
 use Rattle.turns.specs.declared.turn.Turned.{Turned}
-
-unfoldable pub wordOf : Word → W.Word
-wordOf Idle = W.idle
-wordOf Back = W.back
-wordOf Step = W.step
-wordOf End = W.end
-wordOf Final = W.final
-wordOf Wait = W.wait
-wordOf BadTicket = W.badTicket
-wordOf Stuck = W.stuck
 
 -- the value of a listed read of a cell, from place k on for m reads
 unfoldable pub listedFrom : Reads → ℕ → ℕ → ℕ → Option ℕ
@@ -94,10 +86,6 @@ pub record Keeps (b r : Block) : Type 0 where
   pub programs : r .jobs ≡ b .jobs
   pub final : (k : ℕ) → 2 ≤ getD (b .status) k 0 → getD (r .status) k 0 ≡ getD (b .status) k 0
   pub other : (k : ℕ) → getD (b .status) k 0 < 2 → getD (r .status) k 0 ≤ 2
-
--- document 01's number of a refused turn, and 0 of one that was taken
-abbrev pub refusalOf : Word → ℕ
-refusalOf w = W.refusal (wordOf w)
 
 -- the code's answer is the plain turn of ticket t
 pub record Turns (b : Block) (t : ℕ) (r : Turned) : Type 0 where

@@ -54,7 +54,7 @@ use Rattle.turns.specs.Turn.{wordOf}
 use Rattle.turns.specs.Change.{changed, Changes}
 use Rattle.turns.specs.declared.block.Block.{Block}
 use Rattle.turns.specs.declared.turn.Change.{Change}
-use Rattle.turns.specs.declared.word.Word.{Word}
+use Rattle.words.specs.declared.word.Word.{Word}
 use Rattle.turns.proofs.block.Block as T
 use Rattle.turns.proofs.block.Block.Laws as T′
 use Rattle.turns.proofs.block.Checkpoint as Ck
@@ -67,8 +67,8 @@ use Rattle.turns.proofs.block.Versions as Vn
 use Rattle.turns.proofs.block.Versions.Laws as Vn′
 use Rattle.turns.proofs.turn.Change as R
 use Rattle.turns.proofs.turn.Change.Laws as R′
-use Rattle.turns.proofs.word.Word as Wd
-use Rattle.turns.proofs.word.Word.Laws as Wd′
+use Rattle.words.proofs.word.Word as Wd
+use Rattle.words.proofs.word.Word.Laws as Wd′
 use Rattle.turns.proofs.turn.change_of as changing
 use Rattle.turns.proofs.turn.change_of.Symbol as changing-def
 use Rattle.turns.proofs.turn.change_of.Symbol.{name as #change-of}

@@ -27,7 +27,7 @@ use Rattle.turns.specs.declared.block.Entry.{Entry}
 use Rattle.turns.specs.declared.block.Journal.{Journal}
 use Rattle.turns.specs.declared.block.Versions.{Versions}
 use Rattle.turns.specs.declared.block.Block.{Block}
-use Rattle.turns.specs.declared.word.Word.the-variants.{Step, End, Stuck}
+use Rattle.words.specs.declared.word.Word.the-variants.{Step, End, Stuck}
 use Rattle.turns.specs.declared.turn.Turned.{Turned}
 use Rattle.turns.proofs.Laws.Versions.{length-versions}
 use Rattle.turns.proofs.Laws.Moves.{version-at}

@@ -19,7 +19,7 @@ use Rattle.turns.specs.Own.{Long}
 use Rattle.turns.specs.Going.{Going, going-start, going-on, all-written, all-taken}
 use Rattle.turns.specs.Many.{words, byteOf, takingOf, ifLong, allLeave, TakesAll, Takes}
 use Rattle.turns.specs.declared.block.Block.{Block}
-use Rattle.turns.specs.declared.word.Word.the-variants.{BadTicket, Stuck}
+use Rattle.words.specs.declared.word.Word.the-variants.{BadTicket, Stuck}
 use Rattle.turns.specs.declared.turn.Turned.{Turned}
 use Rattle.turns.specs.declared.many.Taking.the-variants.{Taken as AllTaken, WrongLength}
 use Rattle.turns.proofs.Laws.Turn.{keeps-same, keeps-on, turn-foreign, turn-misfit}

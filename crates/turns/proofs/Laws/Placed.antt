@@ -19,7 +19,7 @@ use Rattle.turns.specs.declared.block.Checkpoint.{Checkpoint}
 use Rattle.turns.specs.declared.block.Read.{Read}
 use Rattle.turns.specs.declared.block.Reads.{Reads}
 use Rattle.turns.specs.declared.block.Block.{Block}
-use Rattle.turns.specs.declared.word.Word.{Word}
+use Rattle.words.specs.declared.word.Word.{Word}
 use Rattle.turns.specs.declared.own.Own.{Own}
 use Rattle.turns.proofs.Laws.Moves.{step-is, settle-is, write-is, list-is, end-is, back-is}
 

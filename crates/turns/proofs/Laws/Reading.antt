@@ -31,7 +31,7 @@ use Rattle.turns.specs.declared.block.Block.{Block}
 use Rattle.turns.specs.declared.versions.Shown.{Shown}
 use Rattle.turns.specs.declared.versions.Shown.the-variants.{Value, Nothing}
 use Rattle.turns.specs.declared.versions.Version.{Version}
-use Rattle.turns.specs.declared.word.Word.the-variants.{Step, Stuck}
+use Rattle.words.specs.declared.word.Word.the-variants.{Step, Stuck}
 use Rattle.turns.specs.declared.turn.Turned.{Turned}
 use Rattle.turns.proofs.Laws.Words.{step-did, stuck-did}
 

@@ -21,7 +21,7 @@ use Rattle.turns.specs.Moves.{Held}
 use Rattle.turns.specs.Turn.{wordOf, leaves, finalBelow, jobs, cells, returning, stepping, moving, Did, Marked, Whole}
 use Rattle.turns.specs.declared.block.Read.{Read}
 use Rattle.turns.specs.declared.block.Block.{Block}
-use Rattle.turns.specs.declared.word.Word.the-variants.{Idle, Back, Final, Wait}
+use Rattle.words.specs.declared.word.Word.the-variants.{Idle, Back, Final, Wait}
 use Rattle.turns.specs.declared.turn.Turned.{Turned}
 use Rattle.turns.proofs.Laws.Words.{back-did, final-did, idle-did, wait-did}
 use Rattle.turns.proofs.Laws.Reading.{job-at}

@@ -34,8 +34,8 @@ use Rattle.turns.specs.declared.own.Own.{Own}
 use Rattle.turns.specs.declared.own.Around.{Around}
 use Rattle.turns.specs.declared.own.Move.{Move}
 use Rattle.turns.specs.declared.turn.Change.{Change}
-use Rattle.turns.specs.declared.word.Word.{Word}
-use Rattle.turns.specs.declared.word.Word.the-variants.{BadTicket, Stuck}
+use Rattle.words.specs.declared.word.Word.{Word}
+use Rattle.words.specs.declared.word.Word.the-variants.{BadTicket, Stuck}
 use Rattle.turns.proofs.Laws.Alone.{not-both}
 use Rattle.turns.proofs.Laws.Words.{inside-of}
 use Rattle.turns.proofs.Laws.Reading.{below-showing}

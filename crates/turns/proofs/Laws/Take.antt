@@ -34,8 +34,8 @@ use Rattle.turns.specs.declared.block.Block.{Block}
 use Rattle.turns.specs.declared.versions.Version.{Version}
 use Rattle.turns.specs.declared.versions.Shown.{Shown}
 use Rattle.turns.specs.declared.versions.Shown.the-variants.{Value, Nothing}
-use Rattle.turns.specs.declared.word.Word.{Word}
-use Rattle.turns.specs.declared.word.Word.the-variants.{Idle, Back, Wait, Stuck}
+use Rattle.words.specs.declared.word.Word.{Word}
+use Rattle.words.specs.declared.word.Word.the-variants.{Idle, Back, Wait, Stuck}
 use Rattle.turns.specs.declared.own.Own.{Own}
 use Rattle.turns.specs.declared.own.Around.{Around}
 use Rattle.turns.specs.declared.own.Move.{Move}

@@ -18,7 +18,7 @@ use Rattle.turns.specs.Block.{jobOf, blockOf}
 use Rattle.turns.specs.Fitting.{count-fit, block-fit}
 use Rattle.turns.specs.Turn.{wordOf, leaves, jobs, cells, moving, foreign, Did, Keeps, Turns, Whole}
 use Rattle.turns.specs.declared.block.Block.{Block}
-use Rattle.turns.specs.declared.word.Word.the-variants.{BadTicket, Stuck}
+use Rattle.words.specs.declared.word.Word.the-variants.{BadTicket, Stuck}
 use Rattle.turns.specs.declared.turn.Turned.{Turned}
 use Rattle.turns.proofs.Laws.Reading.{job-at}
 

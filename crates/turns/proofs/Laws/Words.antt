@@ -8,7 +8,7 @@ use Rattle.machine.specs.Machine.{Running}
 use Rattle.turns.specs.Becomes.{Becomes, becomes-changed}
 use Rattle.turns.specs.Turn.{wordOf, leaves, Did}
 use Rattle.turns.specs.declared.block.Block.{Block}
-use Rattle.turns.specs.declared.word.Word.the-variants.{Idle, Back, Step, End, Final, Wait, Stuck}
+use Rattle.words.specs.declared.word.Word.the-variants.{Idle, Back, Step, End, Final, Wait, Stuck}
 use Rattle.turns.proofs.Laws.Alone.{not-both}
 
 -- ---- a move with its word

@@ -1,10 +1,10 @@
--- Each word has its number,
+-- Each word has its byte,
 -- case by case.
 use borrow.Author.Needs.{needs}
-use Rattle.theory.specs.Word.{refusal}
-use Rattle.turns.specs.Turn.{wordOf}
-use Rattle.turns.proofs.word.Word.refusal.Statement.{statement}
-use Rattle.turns.proofs.word.Word.refusal.Tie as tie
+use Rattle.theory.specs.Word.{byteOf}
+use Rattle.words.specs.Words.{wordOf}
+use Rattle.words.proofs.word.Word.byte.Statement.{statement}
+use Rattle.words.proofs.word.Word.byte.Tie as tie
 
 enum-told : tie.Need-enum-told
 enum-told c = search needs
@@ -31,39 +31,39 @@ enum-told-8 : tie.Need-enum-told-8
 enum-told-8 c = search needs
 
 returns : tie.Need-returns
-unfolding refusal wordOf
+unfolding byteOf wordOf
 returns c = search needs
 
 returns-2 : tie.Need-returns-2
-unfolding refusal wordOf
+unfolding byteOf wordOf
 returns-2 c = search needs
 
 returns-3 : tie.Need-returns-3
-unfolding refusal wordOf
+unfolding byteOf wordOf
 returns-3 c = search needs
 
 returns-4 : tie.Need-returns-4
-unfolding refusal wordOf
+unfolding byteOf wordOf
 returns-4 c = search needs
 
 returns-5 : tie.Need-returns-5
-unfolding refusal wordOf
+unfolding byteOf wordOf
 returns-5 c = search needs
 
 returns-6 : tie.Need-returns-6
-unfolding refusal wordOf
+unfolding byteOf wordOf
 returns-6 c = search needs
 
 returns-7 : tie.Need-returns-7
-unfolding refusal wordOf
+unfolding byteOf wordOf
 returns-7 c = search needs
 
 returns-8 : tie.Need-returns-8
-unfolding refusal wordOf
+unfolding byteOf wordOf
 returns-8 c = search needs
 
-pub refusal-spec : {M : Type 1} → statement M
-refusal-spec =
+pub byte-spec : {M : Type 1} → statement M
+byte-spec =
     tie.close
     (tie.spec
     enum-told

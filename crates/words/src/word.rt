@@ -1,7 +1,7 @@
 // What became of a turn: the rules in their order, or the refusals 14 and 20.
 ghost use mathlib.Core.Path.{_≡_};
 ghost use Rattle.theory.specs.Word.{byteOf, refusal};
-ghost use Rattle.turns.specs.Turn.{wordOf};
+ghost use Rattle.words.specs.Words.{wordOf};
 
 pub enum Word {
     Idle,

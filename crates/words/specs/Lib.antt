@@ -1,0 +1,2 @@
+-- The word of a turn.
+pub mod Words

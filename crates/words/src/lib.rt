@@ -1,0 +1,2 @@
+// The word of a turn, with its byte and its refusal's number.
+pub mod word;
