@@ -4,14 +4,24 @@
 #[derive(Clone, Copy, Debug, PartialEq, Eq, PartialOrd, Ord)]
 pub struct Ticket(pub usize);
 
-/// The number of one of the 256 cells.
+/// The number of one of the 256 cells; in an altered block it may be past them.
 #[derive(Clone, Copy, Debug, PartialEq, Eq, PartialOrd, Ord)]
-pub struct Cell(pub u8);
+pub struct Cell(pub u16);
 
 impl Cell {
+    /// The 256 cells, rising.
+    pub fn all() -> impl Iterator<Item = Cell> {
+        (0..CELLS as u16).map(Cell)
+    }
+
     /// The cell that a number from the stack names: the number modulo 256.
     pub fn named_by(number: u64) -> Cell {
-        Cell((number % 256) as u8)
+        Cell((number % CELLS as u64) as u16)
+    }
+
+    /// Whether it is one of the 256.
+    pub fn is_in_table(self) -> bool {
+        self.index() < CELLS
     }
 
     /// Where the cell's value stands in a table.
@@ -31,5 +41,8 @@ impl Place {
     }
 }
 
+/// So many cells in a table.
+pub const CELLS: usize = 256;
+
 /// A value for each of the 256 cells.
-pub type Table = [u64; 256];
+pub type Table = [u64; CELLS];

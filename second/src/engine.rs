@@ -109,7 +109,7 @@ impl Block {
     }
 
     /// Whether the sizes of the block fit.
-    fn fits(&self) -> bool {
+    pub fn fits(&self) -> bool {
         self.jobs.len() <= MOST_JOBS && self.jobs.iter().all(JobInWork::fits)
     }
 
@@ -125,28 +125,30 @@ impl Block {
     /// ones and the journal past the checkpoint; withdraws the versions from lost entries.
     fn go_back(&mut self, ticket: Ticket) -> Answer {
         let job = self.job(ticket);
-        let mut marked = job.reads.iter().filter(|read| read.marked);
-        let read = match self.keeps(Rule::BackToEarliestMark) {
-            true => marked.next(),
-            false => marked.next_back(),
+        let mark = match self.keeps(Rule::BackToEarliestMark) {
+            true => job.marks.first(),
+            false => job.marks.last(),
         };
-        let Some(checkpoint) = read.map(|read| read.checkpoint.clone()) else {
+        let Some(read) = mark.and_then(|mark| job.reads.get(*mark)) else {
             return Answer::Stuck;
         };
+        let checkpoint = read.checkpoint.clone();
         let lost = Return::of(job, &checkpoint);
         self.log.note(Event::WentBack(lost));
         if self.keeps(Rule::BackLosesJournal) {
-            let length = checkpoint.journal_length;
-            self.job_mut(ticket).journal.truncate(length);
+            self.lose_journal_from(ticket, checkpoint.journal_length);
         }
         self.job_mut(ticket).return_to(checkpoint);
-        if self.keeps(Rule::BackWithdrawsLostVersions) {
-            for cell in self.job(ticket).cells_of_lost_entries() {
-                self.withdraw(ticket, cell);
-                self.mark_readers_of_withdrawn(ticket, cell);
-            }
-        }
         Answer::Back
+    }
+
+    /// Loses the journal from this entry on, and withdraws the versions that came from there.
+    fn lose_journal_from(&mut self, ticket: Ticket, entry: usize) {
+        if self.keeps(Rule::BackWithdrawsLostVersions) {
+            let cells = self.job_mut(ticket).withdraw_from(entry);
+            self.mark_readers_of_withdrawn(ticket, &cells);
+        }
+        self.job_mut(ticket).journal.truncate(entry);
     }
 
     /// step or end, by the instruction of a running job.

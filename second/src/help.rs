@@ -146,6 +146,27 @@ status: 0 drawn, 1 the session is refused, 2 bad usage or bad text, 3 the two pr
 example: second draw --played played.txt < session.bin > session.svg
 ",
     ),
+    (
+        "calls",
+        "
+Plays a script of calls on standard input, one a line, and prints an answer a line, as `tools/calls` does through C.
+
+status: 0 every line was a call, 2 a line that is none (its number is told; the answers before it stand)
+example: second calls < script
+",
+    ),
+    (
+        "generate-calls",
+        "
+Writes random scripts of calls, in the text that `second calls` reads. Script k of a seed is always the same.
+
+  --seed S   which scripts, 0 or more
+  --count N  how many
+
+status: 0 written, 2 bad usage or an output that cannot be written
+example: second generate-calls --seed 1 --count 100 > script
+",
+    ),
 ];
 
 /// The usage of each command, without the program's name.

@@ -3,6 +3,7 @@
 
 mod arguments;
 mod assemble;
+mod calls;
 mod checker;
 mod compare;
 mod counts;
@@ -52,6 +53,8 @@ const USAGE: &str = "usage:
   second bytes < SESSION > session.bin
   second explain --played FILE < SESSION
   second draw --played FILE < SESSION > session.svg
+  second calls < script
+  second generate-calls --seed S --count N > script
 a SESSION is text or bytes; FILE is what the proved program printed for it
 ";
 
@@ -80,6 +83,8 @@ fn main() -> ExitCode {
         "bytes" => support::bytes(rest),
         "explain" => return support::explain(rest),
         "draw" => return support::draw(rest),
+        "calls" => calls(rest),
+        "generate-calls" => generate_calls(rest),
         "" => Err(format!("no sub-command\n{USAGE}")),
         other => Err(help::no_such_command(other)),
     };
@@ -226,4 +231,21 @@ fn mutants(words: &[OsString]) -> Outcome {
     let missed = differences.len() - found;
     print_line(&format!("{found} passed, {missed} failed"))?;
     Ok(missed == 0)
+}
+
+/// Plays calls as text; the answers before a line that is no call stand.
+fn calls(words: &[OsString]) -> Outcome {
+    Arguments::parse(words, &[])?;
+    let (answers, complaint) = calls::play_script(&input()?);
+    print(answers.as_bytes())?;
+    complaint.map_or(Ok(true), |complaint| Err(complaint.to_string()))
+}
+
+fn generate_calls(words: &[OsString]) -> Outcome {
+    let arguments = Arguments::parse(words, &["--seed", "--count"])?;
+    let seed = arguments.number("--seed")?;
+    for item in 0..arguments.number("--count")? {
+        print(generate::script::random_script(seed, item).as_bytes())?;
+    }
+    Ok(true)
 }

@@ -1,6 +1,6 @@
 //! Public versions: what a READ finds, what an end makes public or withdraws, and who is marked.
 
-use crate::counts::{Cell, Table, Ticket};
+use crate::counts::{Cell, Table, Ticket, CELLS};
 use crate::engine::Block;
 use crate::log::{Event, ToldRead};
 use crate::rule::Rule;
@@ -14,11 +14,23 @@ impl Block {
         let mut table = self.start;
         // Tickets rise, so that of several versions the one with the greatest ticket stays.
         for job in self.jobs.iter().take(self.final_jobs()) {
-            for cell in job.public.keys() {
-                table[cell.index()] = job.public_value(*cell).unwrap_or(table[cell.index()]);
+            // Of two versions of one cell the first in the list is shown, so it is put in last.
+            for (_, write) in job.shown().rev() {
+                table[write.cell.index()] = write.value;
             }
         }
         table
+    }
+
+    /// What a lent table of so many cells gets, with f; or refusal 12, then 20.
+    pub fn settled_on_request(&self, cells: usize) -> Result<(usize, Table), u8> {
+        if cells != CELLS {
+            return Err(12);
+        }
+        if !self.fits() {
+            return Err(20);
+        }
+        Ok((self.final_jobs(), self.settled()))
     }
 
     /// The public version of a cell with the greatest ticket below this one, and its value; or
@@ -37,14 +49,15 @@ impl Block {
         let journal = &self.job(ticket).journal;
         let cells: BTreeSet<Cell> = journal.iter().map(|write| write.cell).collect();
         for cell in cells {
-            let before = self.job(ticket).public.get(&cell).copied();
+            let before = self.job(ticket).public_version(cell);
+            let before = before.map(|(entry, _)| entry);
             let Some(entry) = self.job(ticket).last_entry(cell) else {
                 continue;
             };
             if before.is_some() && !self.keeps(Rule::StopReplacesPublicVersion) {
                 continue;
             }
-            self.job_mut(ticket).public.insert(cell, entry);
+            self.job_mut(ticket).make_public(entry, before);
             self.note_published(ticket, entry, before);
             if before != Some(entry) || !self.keeps(Rule::StopMarksForOtherEntryOnly) {
                 self.mark_readers_of_older(ticket, cell);
@@ -54,13 +67,10 @@ impl Block {
 
     /// ABANDON: withdraws all its public versions; the journal stays, for a later rollback.
     pub fn abandon(&mut self, ticket: Ticket) {
-        let cells: Vec<Cell> = self.job(ticket).public.keys().copied().collect();
-        for cell in cells {
-            if self.keeps(Rule::AbandonWithdraws) {
-                self.withdraw(ticket, cell);
-            }
-            if self.keeps(Rule::AbandonWithdraws) && self.keeps(Rule::AbandonMarksReaders) {
-                self.mark_readers_of_withdrawn(ticket, cell);
+        if self.keeps(Rule::AbandonWithdraws) {
+            let cells = self.job_mut(ticket).withdraw_from(0);
+            if self.keeps(Rule::AbandonMarksReaders) {
+                self.mark_readers_of_withdrawn(ticket, &cells);
             }
         }
         if !self.keeps(Rule::AbandonKeepsJournal) {
@@ -68,15 +78,12 @@ impl Block {
         }
     }
 
-    /// Withdraws the job's public version of a cell.
-    pub fn withdraw(&mut self, ticket: Ticket, cell: Cell) {
-        self.log.note(Event::Withdrew(cell));
-        self.job_mut(ticket).public.remove(&cell);
-    }
-
-    /// Marks each higher job where it lists a read of the cell with this very source.
-    pub fn mark_readers_of_withdrawn(&mut self, ticket: Ticket, cell: Cell) {
-        self.mark_higher(ticket, |read| read.cell == cell && read.source == ticket);
+    /// Marks each higher job where it lists a read of a withdrawn cell with this very source.
+    pub fn mark_readers_of_withdrawn(&mut self, ticket: Ticket, cells: &[Cell]) {
+        for cell in cells {
+            self.log.note(Event::Withdrew(*cell));
+            self.mark_higher(ticket, |read| read.cell == *cell && read.source == ticket);
+        }
     }
 
     /// Marks each higher job where it lists a read of the cell with this source or a lower one,
@@ -96,10 +103,11 @@ impl Block {
     /// Marks the listed reads of higher jobs that the test picks.
     fn mark_higher(&mut self, ticket: Ticket, picks: impl Fn(&ListedRead) -> bool) {
         for (index, job) in self.jobs.iter_mut().enumerate().skip(ticket.0) {
-            for read in job.reads.iter_mut().filter(|read| picks(read)) {
+            let reads = job.reads.iter().enumerate();
+            for (number, read) in reads.filter(|(_, read)| picks(read)) {
                 let told = ToldRead::of(read);
                 self.log.note(Event::Marked(Ticket(index + 1), told));
-                read.marked = true;
+                job.marks.insert(number);
             }
         }
     }

@@ -5,7 +5,7 @@ use crate::instruction::{
     Instruction, Job, MOST_ENTRIES, MOST_INSTRUCTIONS, MOST_READS, MOST_WRITES,
 };
 use crate::machine::{State, Write};
-use std::collections::BTreeMap;
+use std::collections::BTreeSet;
 
 /// A job is running, ended or final.
 #[derive(Clone, Copy, Debug, PartialEq, Eq)]
@@ -30,7 +30,6 @@ pub struct ListedRead {
     pub source: Ticket,
     pub value: u64,
     pub checkpoint: Checkpoint,
-    pub marked: bool,
 }
 
 /// One job of a block in work.
@@ -41,8 +40,10 @@ pub struct JobInWork {
     pub state: State,
     pub journal: Vec<Write>,
     pub reads: Vec<ListedRead>,
-    /// For each cell it has made public, the number of the journal entry that the version is.
-    pub public: BTreeMap<Cell, usize>,
+    /// The numbers of its marked reads.
+    pub marks: BTreeSet<usize>,
+    /// Its public versions: each is the number of a journal entry, whose cell and value it shows.
+    pub public: Vec<usize>,
 }
 
 impl JobInWork {
@@ -54,7 +55,8 @@ impl JobInWork {
             state: State::fresh(),
             journal: Vec::new(),
             reads: Vec::new(),
-            public: BTreeMap::new(),
+            marks: BTreeSet::new(),
+            public: Vec::new(),
         }
     }
 
@@ -68,10 +70,36 @@ impl JobInWork {
         self.journal.iter().rposition(|write| write.cell == cell)
     }
 
+    /// What its public versions show, in the order of the list.
+    pub fn shown(&self) -> impl DoubleEndedIterator<Item = (usize, Write)> + '_ {
+        let entry = |number: &usize| Some((*number, *self.journal.get(*number)?));
+        self.public.iter().filter_map(entry)
+    }
+
+    /// Its public version of a cell, the first in the list: the entry's number and the entry.
+    pub fn public_version(&self, cell: Cell) -> Option<(usize, Write)> {
+        self.shown().find(|(_, write)| write.cell == cell)
+    }
+
     /// The value of its public version of a cell.
     pub fn public_value(&self, cell: Cell) -> Option<u64> {
-        let entry = self.public.get(&cell)?;
-        self.journal.get(*entry).map(|write| write.value)
+        self.public_version(cell).map(|(_, write)| write.value)
+    }
+
+    /// Makes a journal entry public, in place of another if one is named.
+    pub fn make_public(&mut self, entry: usize, replaced: Option<usize>) {
+        self.public
+            .retain(|shown| *shown != entry && Some(*shown) != replaced);
+        self.public.push(entry);
+        self.public.sort_unstable();
+    }
+
+    /// Withdraws the public versions from this journal entry on, and tells their cells.
+    pub fn withdraw_from(&mut self, entry: usize) -> Vec<Cell> {
+        let withdrawn = self.shown().filter(|(number, _)| *number >= entry);
+        let cells = withdrawn.map(|(_, write)| write.cell).collect();
+        self.public.retain(|shown| *shown < entry);
+        cells
     }
 
     /// The value that its list of reads has for a cell.
@@ -82,7 +110,7 @@ impl JobInWork {
 
     /// Whether it is marked at any read.
     pub fn is_marked(&self) -> bool {
-        self.reads.iter().any(|read| read.marked)
+        !self.marks.is_empty()
     }
 
     /// Makes a checkpoint of where it stands and lists the read.
@@ -97,7 +125,6 @@ impl JobInWork {
             source,
             value,
             checkpoint,
-            marked: false,
         });
     }
 
@@ -105,30 +132,21 @@ impl JobInWork {
     pub fn return_to(&mut self, checkpoint: Checkpoint) {
         self.state = checkpoint.state;
         self.reads.truncate(checkpoint.listed_reads);
-        for read in &mut self.reads {
-            read.marked = false;
-        }
+        self.marks.clear();
         self.phase = Phase::Running;
-    }
-
-    /// The cells whose public version came from a journal entry that is lost.
-    pub fn cells_of_lost_entries(&self) -> Vec<Cell> {
-        let held = self.journal.len();
-        let lost = |(cell, entry): (&Cell, &usize)| (*entry >= held).then_some(*cell);
-        self.public.iter().filter_map(lost).collect()
     }
 
     /// Whether its sizes fit: every count within its limit, every name an entry that it holds.
     pub fn fits(&self) -> bool {
-        let counts = !self.code.is_empty()
-            && self.code.len() <= MOST_INSTRUCTIONS
+        let counts = self.code.len() <= MOST_INSTRUCTIONS
             && self.journal.len() <= MOST_WRITES
             && self.reads.len() <= MOST_READS;
         counts
             && self.code_fits()
             && self.state_fits(&self.state)
-            && self.cells_of_lost_entries().is_empty()
-            && self.reads.iter().all(|read| self.read_fits(read))
+            && self.cells_fit()
+            && self.names_fit()
+            && self.checkpoints_fit()
     }
 
     /// Whether no instruction breaks 5 or 6.
@@ -140,16 +158,37 @@ impl JobInWork {
         self.code.iter().enumerate().all(fits)
     }
 
-    /// Whether a place is in the job and a stack within its limit.
+    /// Whether a place is in the job, which no place is if it has none, and a stack within its limit.
     pub fn state_fits(&self, state: &State) -> bool {
         state.place.0 < self.code.len() && state.stack.len() <= MOST_ENTRIES
     }
 
-    /// Whether a listed read's checkpoint names nothing that the job does not hold.
-    fn read_fits(&self, read: &ListedRead) -> bool {
-        let checkpoint = &read.checkpoint;
-        self.state_fits(&checkpoint.state)
-            && checkpoint.journal_length <= self.journal.len()
-            && checkpoint.listed_reads <= self.reads.len()
+    /// Whether every cell that it names is one of the 256.
+    fn cells_fit(&self) -> bool {
+        let written = self.journal.iter().all(|write| write.cell.is_in_table());
+        written && self.reads.iter().all(|read| read.cell.is_in_table())
+    }
+
+    /// Whether every version names a journal entry, and the earliest mark, which alone counts, a
+    /// listed read.
+    fn names_fit(&self) -> bool {
+        let shown = self.public.iter().all(|entry| *entry < self.journal.len());
+        shown
+            && self
+                .marks
+                .first()
+                .is_none_or(|read| *read < self.reads.len())
+    }
+
+    /// Whether each checkpoint is one of the job as it was before its read: it names no read but
+    /// those before, and no more journal entries than the job held at the next checkpoint.
+    fn checkpoints_fit(&self) -> bool {
+        let mut held_later = self.journal.len();
+        self.reads.iter().enumerate().rev().all(|(number, read)| {
+            let checkpoint = &read.checkpoint;
+            let writes_fit = checkpoint.journal_length <= held_later;
+            held_later = checkpoint.journal_length;
+            writes_fit && checkpoint.listed_reads <= number && self.state_fits(&checkpoint.state)
+        })
     }
 }

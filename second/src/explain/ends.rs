@@ -28,7 +28,7 @@ impl Settled {
 /// Every cell that is not 0, or of which a final job's version is settled; rising.
 pub fn settled_cells(block: &Block) -> Vec<Settled> {
     let above_finals = Ticket(block.final_jobs() + 1);
-    let settled = (0..=u8::MAX).map(Cell).map(|cell| {
+    let settled = Cell::all().map(|cell| {
         let (by, value) = block.newest_version_below(above_finals, cell);
         let start = block.start[cell.index()];
         Settled {
@@ -86,7 +86,7 @@ fn standing(story: &Story, ticket: Ticket) -> String {
         return format!("{end}; final");
     }
     let f = story.block.final_jobs();
-    let marked = job.reads.iter().find(|read| read.marked);
+    let marked = job.marks.first().and_then(|mark| job.reads.get(*mark));
     let waits = match (marked, job.phase) {
         (Some(read), _) => {
             let why = causes_text(read.cell, story.causes(ticket, read.cell));
@@ -140,8 +140,8 @@ fn not_counted_text(block: &Block) -> String {
     let mut text = String::new();
     for ticket in (block.final_jobs() + 1..=block.jobs.len()).map(Ticket) {
         let job = block.job(ticket);
-        let versions: Vec<String> = (0..=u8::MAX)
-            .filter_map(|cell| Some(format!("cell {cell} as {}", job.public_value(Cell(cell))?)))
+        let versions: Vec<String> = Cell::all()
+            .filter_map(|cell| Some(format!("cell {} as {}", cell.0, job.public_value(cell)?)))
             .collect();
         if !versions.is_empty() {
             let (job, versions) = (job_name(ticket), in_words(versions));

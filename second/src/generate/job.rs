@@ -3,7 +3,7 @@
 use crate::checker::verdict;
 use crate::field::{field_bytes, JOB_TAG};
 use crate::instruction::{
-    job_bytes, Code, Instruction, Job, MOST_INSTRUCTIONS, MOST_READS, MOST_WRITES,
+    job_bytes, Code, Instruction, Job, MOST_ENTRIES, MOST_INSTRUCTIONS, MOST_READS, MOST_WRITES,
 };
 use crate::random::Random;
 
@@ -56,6 +56,33 @@ pub fn sound_job(random: &mut Random, taste: &Taste) -> Job {
     writer.ending(taste.abandons / 4);
     let job = writer.code;
     retarget(random, job)
+}
+
+/// A job of 64 instructions whose stack, list of reads and journal all get full: it reads 8
+/// distinct cells, and holds some entries when its journal is full.
+pub fn full_job(random: &mut Random) -> Job {
+    let first = random.below(200) as u64;
+    let mut job = Vec::new();
+    for cell in first..first + MOST_READS as u64 {
+        job.push(Instruction::new(Code::Push, cell));
+        job.push(Instruction::new(Code::Read, 0));
+    }
+    for pushes in [MOST_ENTRIES - MOST_READS, MOST_WRITES / 2] {
+        let values = (0..pushes).map(|_| random.pick(&[first, first + 1, 7, 300]));
+        job.extend(values.map(|value| Instruction::new(Code::Push, value)));
+        job.extend([Instruction::new(Code::Write, 0); MOST_WRITES / 2]);
+    }
+    job.push(Instruction::new(Code::Jump, job.len() as u64 + 1));
+    while job.len() < MOST_INSTRUCTIONS - 1 {
+        let code = if job.len() % 2 == 0 {
+            Code::Pop
+        } else {
+            Code::Push
+        };
+        job.push(Instruction::new(code, 0));
+    }
+    job.push(Instruction::new(Code::Stop, 0));
+    job
 }
 
 /// Aims some jumps elsewhere where the job passes all the same, so that not all are nested.

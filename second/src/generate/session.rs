@@ -15,7 +15,7 @@ use crate::session::{MOST_BYTES, MOST_TURNS};
 use std::collections::BTreeMap;
 
 /// The start values that a session names.
-type Starts = BTreeMap<u8, u64>;
+pub type Starts = BTreeMap<u8, u64>;
 
 /// The session with this number of a seed.
 pub fn random_session(seed: u64, item: u64) -> Vec<u8> {
@@ -30,21 +30,26 @@ pub fn random_session(seed: u64, item: u64) -> Vec<u8> {
 }
 
 /// A block with its start values and turns.
-struct Contest {
-    starts: Starts,
-    jobs: Vec<Job>,
-    turns: Vec<u8>,
+#[derive(Default)]
+pub struct Contest {
+    pub starts: Starts,
+    pub jobs: Vec<Job>,
+    pub turns: Vec<u8>,
+}
+
+/// A session of jobs that get in each other's way.
+fn contended(random: &mut Random) -> Vec<u8> {
+    most_contended(random).map_or(Vec::new(), |one| {
+        session_bytes(&one.starts, job_drafts(&one.jobs), one.turns)
+    })
 }
 
 /// Of a few random contests the one with the most trouble.
-fn contended(random: &mut Random) -> Vec<u8> {
+pub fn most_contended(random: &mut Random) -> Option<Contest> {
     let count = random.pick(&[1, 2, 2, 3, 3, 3, 4, 5, 8, MOST_JOBS]);
     let contests = (0..random.pick(&[1, 6])).map(|_| contest(random, count));
     let score = |one: &Contest| trouble(&table_of(&one.starts), &one.jobs, &one.turns);
-    let most = contests.max_by_key(score);
-    most.map_or(Vec::new(), |one| {
-        session_bytes(&one.starts, job_drafts(&one.jobs), one.turns)
-    })
+    contests.max_by_key(score)
 }
 
 /// Few cells, few values, short jobs: each gets in the others' way.
@@ -145,7 +150,7 @@ fn start_values(random: &mut Random, cells: &[u64]) -> Starts {
 }
 
 /// The start table, in which unnamed cells are 0.
-fn table_of(starts: &Starts) -> Table {
+pub fn table_of(starts: &Starts) -> Table {
     let mut table = [0; 256];
     for (cell, value) in starts {
         table[usize::from(*cell)] = *value;

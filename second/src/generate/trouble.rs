@@ -3,6 +3,7 @@
 use crate::counts::{Cell, Table, Ticket};
 use crate::engine::{Answer, Block};
 use crate::instruction::Job;
+use crate::work::JobInWork;
 use std::collections::BTreeMap;
 
 /// A version withdrawn or replaced at an end is rarer than a rollback, and counts so much more.
@@ -34,5 +35,6 @@ fn versions(block: &Block, ticket: Ticket) -> BTreeMap<Cell, usize> {
         .0
         .checked_sub(1)
         .and_then(|index| block.jobs.get(index));
-    job.map(|job| job.public.clone()).unwrap_or_default()
+    let shown = job.into_iter().flat_map(JobInWork::shown);
+    shown.map(|(entry, write)| (write.cell, entry)).collect()
 }

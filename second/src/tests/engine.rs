@@ -68,7 +68,7 @@ fn going_back_restores_the_checkpoint_and_keeps_the_earlier_reads() {
     assert_eq!(job.state.place, Place(6));
     assert_eq!(job.state.stack, vec![1, 5]);
     assert_eq!((job.reads.len(), job.journal.len()), (1, 1));
-    assert!(job.public.contains_key(&Cell(3)), "entry 0 was not lost");
+    assert_eq!(job.public, [0], "entry 0 was not lost");
     assert!(!job.is_marked());
 }
 
@@ -183,4 +183,21 @@ fn too_many_jobs_do_not_fit() {
     let extra = altered.jobs[0].clone();
     altered.jobs.push(extra);
     assert_eq!(altered.turn(Ticket(1)), Answer::Stuck);
+}
+
+#[test]
+fn of_two_versions_of_one_cell_the_first_in_the_list_is_shown() {
+    let twice = "PUSH 1, PUSH 5, WRITE, PUSH 2, PUSH 5, WRITE, STOP";
+    let mut altered = block(&[twice, READER]);
+    give(&mut altered, 1, 8);
+    assert_eq!(altered.jobs[0].public, [1]);
+    altered.jobs[0].public = vec![0, 1];
+    assert_eq!(
+        altered
+            .settled_on_request(256)
+            .map(|(f, table)| (f, table[5])),
+        Ok((1, 1))
+    );
+    assert_eq!(give(&mut altered, 2, 2), [Answer::Step, Answer::Step]);
+    assert_eq!(altered.job(Ticket(2)).reads[0].value, 1);
 }

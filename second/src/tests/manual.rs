@@ -438,11 +438,13 @@ fn parts_of(job: &JobInWork) -> [String; 5] {
     let journal = journal.map(|write| format!("{}:{}", write.cell.0, write.value));
     let reads = job.reads.iter();
     let reads = reads.map(|read| format!("{}:{} from {}", read.cell.0, read.value, read.source.0));
-    let public = job.public.keys();
-    let public = public.map(|cell| match job.public_value(*cell) {
-        Some(value) => format!("{}:{value}", cell.0),
-        None => panic!("a version of a lost entry"),
-    });
+    assert_eq!(
+        job.shown().count(),
+        job.public.len(),
+        "a version of a lost entry"
+    );
+    let public = job.shown();
+    let public = public.map(|(_, write)| format!("{}:{}", write.cell.0, write.value));
     [
         job.state.place.0.to_string(),
         stack_text(job, "-"),

@@ -1,5 +1,6 @@
 //! The tests: 01's own lines first, then what this program adds.
 
+mod calls;
 mod comparison;
 mod draw;
 mod edge;
@@ -13,6 +14,7 @@ mod header;
 mod machine;
 mod malformed;
 mod manual;
+mod scripts;
 mod text_form;
 mod usage;
 
