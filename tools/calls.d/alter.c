@@ -118,7 +118,7 @@ static size_t read_of(size_t job, uint64_t number)
 
 static uint8_t *numbers_of(struct garvolish_versions *versions)
 {
-    return versions->places;
+    return versions->numbers;
 }
 
 /* Where the version stands that is the k-th in the order of the entries. */

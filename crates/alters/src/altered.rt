@@ -28,13 +28,13 @@ pub(crate) fn with_jobs(b: Block, count: u8) -> Block {
     Block {
         start: start,
         count: count,
-        jobs: [job; 16],
-        states: [state; 16],
-        status: [2; 16],
-        journals: [journal; 16],
-        versions: [versions; 16],
-        reads: [reads; 16],
-        checkpoints: [checkpoint; 128],
+        jobs: [job; Job::MOST as usize],
+        states: [state; Job::MOST as usize],
+        status: [Block::FINAL; Job::MOST as usize],
+        journals: [journal; Job::MOST as usize],
+        versions: [versions; Job::MOST as usize],
+        reads: [reads; Job::MOST as usize],
+        checkpoints: [checkpoint; Block::SLOTS * (Job::MOST as usize)],
     }
 }
 
@@ -62,9 +62,9 @@ pub(crate) fn with_stops(b: Block, k: usize, size: u8) -> Block
 {
     let mut r = b;
     r.jobs[k] = Program {
-        codes: [0; 64],
-        arguments: [0; 64],
-        pushed: [0; 64],
+        codes: [0; Job::LONGEST as usize],
+        arguments: [0; Job::LONGEST as usize],
+        pushed: [0; Job::LONGEST as usize],
         size: size,
     };
     r
@@ -128,7 +128,7 @@ pub(crate) fn with_journal(b: Block, k: usize, size: u8) -> Block
         value: 7,
     };
     let mut j = b.journals[k];
-    j.entries = [e; 8];
+    j.entries = [e; Job::FEW as usize];
     j.size = size;
     let mut r = b;
     r.journals[k] = j;
@@ -153,7 +153,7 @@ pub(crate) fn with_versions(b: Block, k: usize, size: u8) -> Block
     requires { ⌜ k < 16 ⌝ }
 {
     let mut v = b.versions[k];
-    v.numbers = [0; 8];
+    v.numbers = [0; Job::FEW as usize];
     v.size = size;
     let mut r = b;
     r.versions[k] = v;
@@ -186,11 +186,11 @@ pub(crate) fn with_reads(b: Block, k: usize, size: u8, cell: u16) -> Block
         listed: 0,
     };
     let mut list = b.reads[k];
-    list.reads = [read; 8];
+    list.reads = [read; Job::FEW as usize];
     list.size = size;
     let mut r = b;
     r.reads[k] = list;
-    r.checkpoints = [checkpoint; 128];
+    r.checkpoints = [checkpoint; Block::SLOTS * (Job::MOST as usize)];
     r
 }
 

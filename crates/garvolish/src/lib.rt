@@ -1,6 +1,8 @@
 // The engine for callers in C: each function works on the caller's own block or table, and answers a number.
 pub mod number;
 
+use crate::number::SECOND;
+use crate::number::THIRD;
 use crate::number::number_of_word;
 use crate::number::open_number;
 use crate::number::serial_number;
@@ -77,13 +79,16 @@ pub extern "C" fn garvolish_run_serially(start: &[u64], output: &mut [u64], pape
 pub extern "C" fn garvolish_version() -> u32
     ensures { λ r. ⌜ r ≡ VERSION ⌝ }
 {
-    65536 * MAJOR + 256 * MINOR + PATCH
+    THIRD * MAJOR + SECOND * MINOR + PATCH
 }
 
-// The bytes of a block. The name has the number of the block's layout, so that a program compiled for another does not link.
+// The bytes of a block.
+const BLOCK: u32 = 38696;
+
+// Answers them. The name has the number of the block's layout, so that a program compiled for another does not link.
 #[no_mangle]
 pub extern "C" fn garvolish_layout_1() -> u32
     ensures { λ r. ⌜ r ≡ SIZE ⌝ }
 {
-    38696
+    BLOCK
 }

@@ -39,9 +39,9 @@ pub(crate) fn number_of_word(word: Word) -> u32
 }
 
 // What the second and the third byte of an answer count for.
-const SECOND: u32 = 256;
+pub(crate) const SECOND: u32 = 256;
 
-const THIRD: u32 = 65536;
+pub(crate) const THIRD: u32 = 65536;
 
 // A refusal's number, field and place in one number, a byte for each.
 fn pack(fault: Fault, field: Field, place: Place) -> u32

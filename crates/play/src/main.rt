@@ -17,16 +17,19 @@ fn drain() {
     }
 }
 
-// Room for the longest text that a session can have (`text-short`).
-fn room() -> [u8; 204032]
+// Bytes of the longest text that a session can have (`text-short`), and one more than a session may have, so that too long a one is seen.
+const TEXT: usize = 204032;
+
+const INPUT: usize = 16385;
+
+fn room() -> [u8; TEXT]
     ensures { λ r. ⌜ 204032 ≡ length r ⌝ }
 {
-    [0; 204032]
+    [0; TEXT]
 }
 
-// The input has room for one byte more than a session may have, so that too long a one is seen.
 fn main() {
-    let mut input = [0u8; 16385];
+    let mut input = [0u8; INPUT];
     let mut output = room();
     let n = io::read_full(STDIN_FILENO, &mut input);
     drain();

@@ -18,7 +18,7 @@ enum At {
     Wrong,
 }
 
-// What was read: so many bytes of a paper, a digit that waits for its second (16: none), where the text is, its line,
+// What was read: so many bytes of a paper, a digit that waits for its second (or none), where the text is, its line,
 // and the line of the last byte.
 struct Reader {
     size: usize,
@@ -29,10 +29,13 @@ struct Reader {
 }
 
 impl Reader {
+    // The value of no digit.
+    const NO_DIGIT: u8 = 16;
+
     fn fresh() -> Reader {
         Reader {
             size: 0,
-            digit: 16,
+            digit: Reader::NO_DIGIT,
             at: At::Gap,
             line: 1,
             last: 1,
@@ -43,7 +46,7 @@ impl Reader {
     fn with(self, size: usize, at: At) -> Reader {
         Reader {
             size: size,
-            digit: 16,
+            digit: Reader::NO_DIGIT,
             at: at,
             line: self.line,
             last: self.last,
@@ -63,7 +66,7 @@ impl Reader {
     fn next_line(self) -> Reader {
         Reader {
             size: self.size,
-            digit: 16,
+            digit: Reader::NO_DIGIT,
             at: At::Gap,
             line: wrapping_add_u64(self.line, 1),
             last: self.last,
@@ -71,7 +74,7 @@ impl Reader {
     }
 }
 
-// The value of a hexadecimal digit, or 16.
+// The value of a hexadecimal digit, or none.
 fn digit_of(b: u8) -> u8
     ensures { λ r. ⌜ r ≤ 16 ⌝ }
 {
@@ -79,7 +82,7 @@ fn digit_of(b: u8) -> u8
         b'0'..=b'9' => b - b'0',
         b'a'..=b'f' => b - b'a' + 10,
         b'A'..=b'F' => b - b'A' + 10,
-        _ => 16,
+        _ => Reader::NO_DIGIT,
     }
 }
 
@@ -136,7 +139,7 @@ fn part_words(r: Reader, b: u8) -> Reader {
 // The reader after the first byte of a word, or one between words.
 fn begin_word(paper: &mut [u8], r: Reader, b: u8) -> Reader {
     let digit = digit_of(b);
-    if digit < 16 {
+    if digit < Reader::NO_DIGIT {
         return r.with_digit(digit);
     }
     if b == b'.' {
@@ -150,11 +153,11 @@ fn begin_word(paper: &mut [u8], r: Reader, b: u8) -> Reader {
 fn end_word(paper: &mut [u8], r: Reader, b: u8) -> Reader {
     let size = r.size;
     let high = r.digit;
-    if 16 <= high {
+    if Reader::NO_DIGIT <= high {
         return part_words(r, b);
     }
     let low = digit_of(b);
-    if 16 <= low {
+    if Reader::NO_DIGIT <= low {
         return refuse_word(r);
     }
     if size < paper.len() {
@@ -194,7 +197,7 @@ fn read_bytes(paper: &mut [u8], r: Reader, bytes: &[u8]) -> Reader {
 
 // Half a byte, or a paper without its dot, is told at the end of the text.
 fn end_text(r: Reader) {
-    if r.digit < 16 {
+    if r.digit < Reader::NO_DIGIT {
         refuse_word(r);
         return;
     }
