@@ -3,11 +3,11 @@ use machine::counts::Cell;
 use machine::counts::Ticket;
 use machine::job::Job;
 use machine::job::State;
-use turns::block::Block;
-use turns::block::Checkpoint;
-use turns::block::Entry;
-use turns::block::Program;
-use turns::block::Read;
+use rules::block::Block;
+use rules::block::Checkpoint;
+use rules::block::Entry;
+use rules::block::Program;
+use rules::block::Read;
 ghost use Prim.Native.Nat.{_<_};
 
 pub(crate) fn with_count(b: Block, count: u8) -> Block {

@@ -4,7 +4,7 @@ use crate::altered::with_instruction;
 use crate::tell::say_number;
 use crate::tell::tell;
 use machine::instruction::Instruction;
-use turns::block::Block;
+use rules::block::Block;
 ghost use Prim.Native.Nat.{_<_};
 
 fn say_at(code: u8, operand: u64, place: u8) {

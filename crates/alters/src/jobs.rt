@@ -13,7 +13,7 @@ use crate::tell::LENT;
 use crate::tell::say;
 use crate::tell::tell;
 use crate::tell::tell_settled;
-use turns::block::Block;
+use rules::block::Block;
 
 // The last of 16 jobs is tested as the others are.
 fn try_job_counts(b: Block) {

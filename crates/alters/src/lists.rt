@@ -10,7 +10,7 @@ use crate::altered::with_status;
 use crate::altered::with_version;
 use crate::altered::with_versions;
 use crate::tell::tell;
-use turns::block::Block;
+use rules::block::Block;
 
 fn try_entries(b: Block) {
     let full = with_journal(b, 1, 8);

@@ -14,7 +14,7 @@ use crate::lists::try_lists;
 use crate::needs::try_needs;
 use crate::tell::say;
 use machine::counts::Ticket;
-use turns::block::Block;
+use rules::block::Block;
 use turns::open::Opened;
 use turns::open::Opening;
 use turns::open::open;

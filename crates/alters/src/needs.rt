@@ -11,7 +11,7 @@ use crate::altered::with_status;
 use crate::tell::say_number;
 use crate::tell::tell;
 use machine::instruction::Instruction;
-use turns::block::Block;
+use rules::block::Block;
 
 // Ticket 1 at an instruction, with a stack of so many.
 fn try_need(b: Block, code: u8, operand: u8, height: u8) {

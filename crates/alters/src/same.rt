@@ -1,14 +1,14 @@
 // Whether two blocks in work are the same: every field, entry by entry, also past the counts.
 use machine::job::Stack;
 use machine::job::State;
-use turns::block::Block;
-use turns::block::Checkpoint;
-use turns::block::Entry;
-use turns::block::Journal;
-use turns::block::Program;
-use turns::block::Read;
-use turns::block::Reads;
-use turns::block::Versions;
+use rules::block::Block;
+use rules::block::Checkpoint;
+use rules::block::Entry;
+use rules::block::Journal;
+use rules::block::Program;
+use rules::block::Read;
+use rules::block::Reads;
+use rules::block::Versions;
 ghost use Prim.Native.Nat.{_<_};
 
 fn same_job(a: Program, b: Program) -> bool {

@@ -3,7 +3,7 @@
 use crate::same::same_blocks;
 use libc::STDOUT_FILENO;
 use machine::counts::Ticket;
-use turns::block::Block;
+use rules::block::Block;
 use turns::settled::Settling;
 use turns::settled::settled_table;
 use turns::turn::turn;

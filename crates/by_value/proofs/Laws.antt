@@ -4,15 +4,15 @@ use mathlib.Core.List.{List}
 use Prim.Native.Nat.{ℕ, _+_, _≤_, _<_}
 use lib.ListN.{length, getD, set}
 use borrow.Author.Tests.{eq-eqb, ne-eqb}
-use Rattle.turns.specs.Block.{blockOf}
+use Rattle.rules.specs.Block.{blockOf}
 use Rattle.turns.specs.Going.{Going, going-start, going-on, all-written}
 use Rattle.turns.specs.Many.{byteOf, ifLong}
 use Rattle.turns.specs.Open.{openingOf, openAnswer, openBlock, Opens}
 use Rattle.garvolish.specs.Numbers.{packed}
-use Rattle.turns.specs.Turn.{wordOf, Turns}
-use Rattle.turns.specs.declared.block.Block.{Block}
+use Rattle.rules.specs.Turn.{wordOf, Turns}
+use Rattle.rules.specs.declared.block.Block.{Block}
 use Rattle.turns.specs.declared.open.Opened.{Opened}
-use Rattle.turns.specs.declared.turn.Turned.{Turned}
+use Rattle.rules.specs.declared.block.Turned.{Turned}
 use Rattle.by_value.specs.Hands.{ifOpened, HandsOver}
 
 module _ (start paper ts : List ℕ) where

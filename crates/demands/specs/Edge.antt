@@ -13,7 +13,7 @@ use Rattle.machine.specs.Instruction.{known, fits, leadsOn, jumps, need, after}
 use Rattle.machine.specs.Machine.{stays, stackAfter, placeAfter, moved, placed, suffices, ready, asked, act, Running, formed, sizes}
 use Rattle.machine.specs.Verdict.{scan, formOf, formAt, endOf, brought, entriesAt, sizeOf, flowOf, verdictOf}
 use Rattle.machine.specs.Paper.{little, instruction, instructions, size, jobOf, later, frameOf, fieldOf, fields}
-use Rattle.turns.specs.Box.{box, limits}
+use Rattle.rules.specs.Box.{box, limits}
 use Rattle.turns.specs.Many.{words}
 use Rattle.turns.specs.Open.{openedBy, openBlock, openAnswer}
 

@@ -14,7 +14,7 @@ use Rattle.machine.specs.Machine.{Running, starting}
 use Rattle.machine.specs.Paper.{Answer, jobs, refused, paperAnswer}
 use Rattle.machine.specs.View.{number}
 use Rattle.machine.specs.declared.instruction.Instruction.{Instruction}
-use Rattle.turns.specs.Box.{box, limits}
+use Rattle.rules.specs.Box.{box, limits}
 use Rattle.turns.specs.Many.{bytes, ifLong}
 use Rattle.turns.specs.Open.{openBlock}
 use Rattle.turns.specs.SerialRun.{cellsOf}

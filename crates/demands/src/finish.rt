@@ -3,7 +3,7 @@ use machine::counts::Cell;
 use machine::counts::Place;
 use machine::paper::Field;
 use machine::verdict::Fault;
-use turns::block::Block;
+use rules::block::Block;
 use turns::many::Taking;
 use turns::many::take_turns;
 use turns::open::Opening;
@@ -14,8 +14,8 @@ ghost use mathlib.Core.Bool.{true};
 ghost use lib.ListN.{length};
 ghost use Rattle.theory.specs.Engine.{blockFits};
 ghost use Rattle.machine.specs.Limits.{CELLS};
-ghost use Rattle.turns.specs.Box.{box, limits};
-ghost use Rattle.turns.specs.Block.{blockOf};
+ghost use Rattle.rules.specs.Box.{box, limits};
+ghost use Rattle.rules.specs.Block.{blockOf};
 ghost use Rattle.demands.specs.Finish.{TurnsSettle, Finishes};
 
 pub enum Finishing {

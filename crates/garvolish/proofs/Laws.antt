@@ -10,10 +10,10 @@ use Rattle.machine.specs.declared.paper.Field.{Field}
 use Rattle.machine.specs.declared.verdict.Fault.{Fault}
 use Rattle.turns.specs.Open.{openingOf, Opens}
 use Rattle.turns.specs.SerialRun.{Serves}
-use Rattle.turns.specs.Turn.{wordOf}
+use Rattle.rules.specs.Turn.{wordOf}
 use Rattle.words.specs.declared.word.Word.{Word}
 use Rattle.turns.specs.Change.{changed, Changes}
-use Rattle.turns.specs.declared.block.Block.{Block}
+use Rattle.rules.specs.declared.block.Block.{Block}
 use Rattle.turns.specs.declared.open.Opened.{Opened}
 use Rattle.turns.specs.declared.open.Opening.{Opening}
 use Rattle.turns.specs.declared.open.Opening.the-variants.{Accepted, WrongTable, Refused}

@@ -10,9 +10,9 @@ use denote.Laws.{Is}
 use denote.Builtin.{u32}
 use denote.Steps.{only}
 use denote.Struct.Laws as LL
-use Rattle.turns.specs.declared.block.Block.{Block}
-use Rattle.turns.proofs.block.Block as T
-use Rattle.turns.proofs.block.Block.Laws as T′
+use Rattle.rules.specs.declared.block.Block.{Block}
+use Rattle.rules.proofs.block.Block as T
+use Rattle.rules.proofs.block.Block.Laws as T′
 use Rattle.garvolish.specs.declared.number.Numbered.{Numbered}
 use Rattle.garvolish.proofs.number.Numbered as R
 use Rattle.garvolish.proofs.number.Numbered.Laws as R′

@@ -33,9 +33,9 @@ use borrow.Table.Elements.{at, at-mul, focus}
 use borrow.Table.OneValue.{One, part-in, part-out}
 use borrow.Rule.Slice.Shared.{parts-cells}
 use borrow.Struct.Behind.{put-at}
-use Rattle.turns.specs.declared.block.Block.{Block}
-use Rattle.turns.proofs.block.Block as B
-use Rattle.turns.proofs.block.Block.Laws as B′
+use Rattle.rules.specs.declared.block.Block.{Block}
+use Rattle.rules.proofs.block.Block as B
+use Rattle.rules.proofs.block.Block.Laws as B′
 
 -- a block's fields
 abbrev Fs : List Field

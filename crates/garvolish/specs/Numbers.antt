@@ -6,14 +6,14 @@ use Prim.Native.Nat.{ℕ, _+_, _*_}
 use lib.Dec.{eqb}
 use Rattle.theory.specs.Word as W
 use Rattle.theory.specs.Engine as E
-use Rattle.turns.specs.Box.{box, limits}
-use Rattle.turns.specs.Block.{blockOf}
-use Rattle.turns.specs.Turn.{leaves, Keeps}
+use Rattle.rules.specs.Box.{box, limits}
+use Rattle.rules.specs.Block.{blockOf}
+use Rattle.rules.specs.Turn.{leaves, Keeps}
 use Rattle.turns.specs.Many.{bytes, ifLong, allLeave}
 use Rattle.turns.specs.Open.{openAnswer, openBlock, openWhole}
 use Rattle.turns.specs.Settled.{settledAnswer, settledCount, settledTable}
 use Rattle.turns.specs.SerialRun.{serialAnswer, serialTable}
-use Rattle.turns.specs.declared.block.Block.{Block}
+use Rattle.rules.specs.declared.block.Block.{Block}
 
 -- a refused turn by its refusal's number, any other by its byte
 unfoldable pub wordNumber : W.Word → ℕ

@@ -9,7 +9,7 @@ use crate::number::serial_number;
 use crate::number::settled_number;
 use crate::number::take_number;
 use machine::counts::Ticket;
-use turns::block::Block;
+use rules::block::Block;
 use turns::turn::change_of;
 ghost use mathlib.Core.Path.{_≡_};
 ghost use Rattle.garvolish.specs.Numbers.{TurnsTo, TakesTo, OpensTo, SettlesTo, ServesTo};

@@ -2,7 +2,7 @@
 use machine::counts::Place;
 use machine::paper::Field;
 use machine::verdict::Fault;
-use turns::block::Block;
+use rules::block::Block;
 use turns::many::Taking;
 use turns::many::take_turns;
 use turns::open::Opening;
@@ -17,7 +17,7 @@ ghost use Rattle.machine.specs.View.{number};
 ghost use Rattle.turns.specs.Many.{takingOf};
 ghost use Rattle.turns.specs.Open.{openingOf};
 ghost use Rattle.turns.specs.Settled.{refusalOf};
-ghost use Rattle.turns.specs.Turn.{wordOf};
+ghost use Rattle.rules.specs.Turn.{wordOf};
 ghost use Rattle.garvolish.specs.Numbers.{wordNumber, packed, TakesTo, OpensTo, SettlesTo, ServesTo};
 
 // An answer, and the block after it.

@@ -7,7 +7,7 @@ ghost use mathlib.Core.Bool.{true, cond};
 ghost use Prim.Native.Nat.{_+_, _≤_, _<_};
 ghost use lib.Dec.{eqb};
 ghost use Rattle.machine.specs.Limits.{LONGEST, ROOM, FEW};
-ghost use Rattle.machine.specs.Instruction.{leadsOn, need, after};
+ghost use Rattle.machine.specs.Instruction.{after};
 ghost use Rattle.machine.specs.Verdict.{sound, scan, formOf, formAt, endOf, meet, bring, lead, ledOf, meetingOf, foundOf, heightOf, entriesOf, entriesAt, flowOf, jobVerdict};
 ghost use Rattle.machine.specs.View.{codeOf, number, findingOf};
 ghost use Rattle.machine.specs.Fitting.{Fitting};

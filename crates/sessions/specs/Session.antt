@@ -6,7 +6,7 @@ use Prim.Native.Nat.{ℕ, zero, suc, _≤_}
 use lib.ListN.{length}
 use Rattle.theory.specs.Engine as E
 use Rattle.machine.specs.Machine.{Running}
-use Rattle.turns.specs.Box.{box, limits}
+use Rattle.rules.specs.Box.{box, limits}
 use Rattle.turns.specs.Open.{openAnswer, openBlock}
 use Rattle.sessions.specs.Limits.{TURNS}
 use Rattle.sessions.specs.Text.{wordText, turnLine, cellLines, refusedLine, Puts}

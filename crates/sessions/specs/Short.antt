@@ -13,7 +13,7 @@ use Rattle.theory.specs.Engine as E
 use Rattle.theory.specs.ReadSizes.{both}
 use Rattle.machine.specs.Machine.{Running}
 use Rattle.machine.specs.Paper.{size, later}
-use Rattle.turns.specs.Box.{box, limits}
+use Rattle.rules.specs.Box.{box, limits}
 use Rattle.turns.specs.Open.{openAnswer, openBlock}
 use Rattle.sessions.specs.Limits.{BYTES, TURNS}
 use Rattle.sessions.specs.Text.{space, newline, digits, decimal, wordText, spaced, lastOf, named, turnLine, cellLine, cellLines, whereOf, refusedLine, put}

@@ -1,27 +1,10 @@
 -- One law for each return of the code, over plain variables; a function's laws stand in one ruleset.
-pub mod Arrays
-pub mod Filled
-pub mod Journal
-pub mod Versions
-pub mod Marks
-pub mod Moves
-pub mod Own
 pub mod Solo
 pub mod Alone
 pub mod Accepted
 pub mod Serial
-pub mod Words
-pub mod Reading
-pub mod Instruct
-pub mod Rules
 pub mod Turn
-pub mod Placed
-pub mod Take
 pub mod Store
-pub mod Program
 pub mod Open
 pub mod Settled
-pub mod Tests
-pub mod Code
-pub mod Sizes
 pub mod Many

@@ -4,26 +4,19 @@ use mathlib.Core.Bool.{true, false, cond}
 use mathlib.Core.List.{List, []}
 use Prim.Native.Nat.{ℕ, suc, _+_, _≤_, _<_}
 use lib.ListN.{length, getD}
-use Rattle.theory.specs.Promise.{Passed}
 use Rattle.theory.specs.Every.{Every}
 use Rattle.theory.specs.Serial.{over, solo, alone, serial}
-use Rattle.machine.specs.Limits.{ROOM, FEW, CELLS}
-use Rattle.machine.specs.Machine.{start, current, starting}
-use Rattle.machine.specs.View.{stateOf, codeOf, noJob, Steps}
+use Rattle.machine.specs.Limits.{FEW, CELLS}
+use Rattle.machine.specs.Machine.{start, starting}
+use Rattle.machine.specs.View.{stateOf, codeOf, noJob}
 use Rattle.machine.specs.declared.instruction.Instruction.{Instruction}
 use Rattle.machine.specs.declared.job.Job.{Job}
-use Rattle.machine.specs.declared.job.State.{State}
-use Rattle.machine.specs.declared.step.Stepped.{Stepped}
-use Rattle.turns.specs.Box.{box, boxChecked}
-use Rattle.turns.specs.View.{journalOf}
-use Rattle.turns.specs.Block.{runningOf}
+use Rattle.rules.specs.Box.{box, boxChecked}
+use Rattle.rules.specs.View.{journalOf}
+use Rattle.rules.specs.Block.{runningOf}
 use Rattle.turns.specs.SerialRun.{cellsOf}
-use Rattle.turns.specs.declared.block.Journal.{Journal}
+use Rattle.rules.specs.declared.block.Journal.{Journal}
 use Rattle.turns.specs.declared.serial.Alone.{Alone}
-
--- the answer to the instruction at which a job stands
-pub record StepsIn (is : List Instruction) (s : State) (r : Stepped) : Type 0 where
-  pub steps : Steps ROOM (length is) (current (runningOf is s)) (stateOf s) (r .act) (stateOf (r .state))
 
 -- a journal of few entries, each for a cell of the table
 pub record Writes (j : Journal) : Type 0 where
@@ -61,13 +54,6 @@ pub record Begins (a : Alone) : Type 0 where
 pub record GoesOn (is : List Instruction) (table : ℕ → ℕ) (a b : Alone) : Type 0 where
   pub goes : Goes is table b
   pub less : toGo is b < toGo is a
-
--- a job that passed
-pub record Passes (j : Job) : Type 0 where
-  pub passed : Passed box boxChecked FEW (starting (codeOf j))
-
-pub record AllPass (js : List Job) (n : ℕ) : Type 0 where
-  pub pass : (k : ℕ) → k < n → Passes (getD js k noJob)
 
 -- the table after a journal's writes
 pub record Applies (j : Journal) (before after : List ℕ) : Type 0 where

@@ -5,14 +5,14 @@ use mathlib.Core.List.{List}
 use Prim.Native.Nat.{ℕ, _-_, _<_}
 use lib.ListN.{getD, set}
 use Rattle.theory.specs.Engine as E
-use Rattle.turns.specs.Box.{box, limits}
-use Rattle.turns.specs.View.{noReads}
-use Rattle.turns.specs.Block.{blockOf}
-use Rattle.turns.specs.Turn.{foreign, Turns}
-use Rattle.turns.specs.Own.{slotAt}
-use Rattle.turns.specs.declared.block.Reads.{Reads}
-use Rattle.turns.specs.declared.block.Block.{Block}
-use Rattle.turns.specs.declared.own.Move.{Move}
+use Rattle.rules.specs.Box.{box, limits}
+use Rattle.rules.specs.View.{noReads}
+use Rattle.rules.specs.Block.{blockOf}
+use Rattle.rules.specs.Turn.{foreign, Turns}
+use Rattle.rules.specs.Own.{slotAt}
+use Rattle.rules.specs.declared.block.Reads.{Reads}
+use Rattle.rules.specs.declared.block.Block.{Block}
+use Rattle.rules.specs.declared.own.Move.{Move}
 use Rattle.turns.specs.declared.turn.Change.{Change}
 
 -- a move of the job at index i, with the slot at s and these lists of reads

@@ -28,7 +28,7 @@ use Rattle.machine.specs.Machine.{Running, starting}
 use Rattle.machine.specs.Paper.{Answer, jobs, refused, paperAnswer}
 use Rattle.machine.specs.declared.instruction.Instruction.{Instruction}
 use Rattle.promise.specs.Papers.{accepted-jobs}
-use Rattle.turns.specs.Box.{box, boxChecked, box-promise, limits}
+use Rattle.rules.specs.Box.{box, boxChecked, box-promise, limits}
 use Rattle.turns.specs.SerialRun.{cellsOf}
 use Rattle.turns.specs.Open.{nothingOpen, openedBy, openBlock}
 

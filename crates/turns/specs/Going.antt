@@ -8,7 +8,7 @@ use lib.ListN.{length, getD, take, drop, set, length-set, drop-of-length-le}
 use lib.Seq.{take-suc-set, take-all, drop-cons}
 use Rattle.theory.specs.Engine as E
 use Rattle.machine.specs.Machine.{Running}
-use Rattle.turns.specs.Box.{box, limits}
+use Rattle.rules.specs.Box.{box, limits}
 use Rattle.turns.specs.Many.{words, byteOf, bytes}
 
 -- the tickets from the k-th on, from the block c, give the whole list's block and bytes, those before k being written

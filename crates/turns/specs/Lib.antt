@@ -1,13 +1,4 @@
--- The box's own instance of the plain engine, and what the structs of the code stand for.
-pub mod Box
-pub mod View
-pub mod Program
-pub mod Marks
-pub mod Block
-pub mod Becomes
-pub mod Moves
-pub mod Turn
-pub mod Own
+-- The functions on a whole block: the opening, a turn's change, lists of turns, the settled table, the serial run; and the demands for the box.
 pub mod Change
 pub mod Many
 pub mod Going
@@ -16,5 +7,3 @@ pub mod SerialRun
 pub mod Alone
 pub mod Settled
 pub mod Demands
-pub mod Sizes
-pub mod Fitting

@@ -9,10 +9,10 @@ use Rattle.theory.specs.Word as W
 unfoldable pub use Rattle.theory.specs.Word.{byteOf}
 use Rattle.theory.specs.Engine as E
 use Rattle.machine.specs.Machine.{Running}
-use Rattle.turns.specs.Box.{box, limits}
-use Rattle.turns.specs.Block.{blockOf}
-use Rattle.turns.specs.Turn.{Keeps}
-use Rattle.turns.specs.declared.block.Block.{Block}
+use Rattle.rules.specs.Box.{box, limits}
+use Rattle.rules.specs.Block.{blockOf}
+use Rattle.rules.specs.Turn.{Keeps}
+use Rattle.rules.specs.declared.block.Block.{Block}
 use Rattle.turns.specs.declared.many.Taking.{Taking}
 use Rattle.turns.specs.declared.many.Taking.the-variants.{Taken as AllTaken, WrongLength}
 use Rattle.turns.specs.declared.many.Taken.{Taken}

@@ -12,12 +12,12 @@ use Rattle.machine.specs.Machine.{Running, starting}
 use Rattle.machine.specs.Paper.{Answer, jobs, refused, refusal, paperAnswer}
 use Rattle.machine.specs.View.{freshState, number}
 use Rattle.machine.specs.declared.instruction.Instruction.{Instruction}
-use Rattle.turns.specs.Box.{box, limits}
-use Rattle.turns.specs.View.{emptyJournal, emptyVersions, emptyReads}
-use Rattle.turns.specs.Program.{noProgram, programOf, allPacked}
-use Rattle.turns.specs.Block.{blockOf}
-use Rattle.turns.specs.declared.block.Block.{Block}
-use Rattle.turns.specs.declared.block.Program.{Program}
+use Rattle.rules.specs.Box.{box, limits}
+use Rattle.rules.specs.View.{emptyJournal, emptyVersions, emptyReads}
+use Rattle.rules.specs.Program.{noProgram, programOf, allPacked}
+use Rattle.rules.specs.Block.{blockOf}
+use Rattle.rules.specs.declared.block.Block.{Block}
+use Rattle.rules.specs.declared.block.Program.{Program}
 use Rattle.turns.specs.declared.open.Opened.{Opened}
 use Rattle.turns.specs.declared.open.Opening.{Opening}
 use Rattle.turns.specs.declared.open.Opening.the-variants.{Accepted, WrongTable, Refused}

@@ -11,7 +11,7 @@ use Rattle.machine.specs.Limits.{CELLS}
 use Rattle.machine.specs.Machine.{starting}
 use Rattle.machine.specs.Paper.{Answer, jobs, refused, refusal, paperAnswer}
 use Rattle.machine.specs.declared.instruction.Instruction.{Instruction}
-use Rattle.turns.specs.Box.{box}
+use Rattle.rules.specs.Box.{box}
 use Rattle.turns.specs.Open.{openingOf}
 use Rattle.turns.specs.declared.open.Opening.{Opening}
 

@@ -8,13 +8,13 @@ use lib.Dec.{eqb, leb}
 use lib.ListN.{length, getD}
 use Rattle.theory.specs.Engine as E
 use Rattle.machine.specs.Limits.{CELLS}
-use Rattle.turns.specs.Box.{limits, box}
-use Rattle.turns.specs.View.{noEntry, journalOf, versionsOf, noJournal, noVersions, Showing, foundIn}
-use Rattle.turns.specs.Block.{blockOf}
+use Rattle.rules.specs.Box.{limits, box}
+use Rattle.rules.specs.View.{noEntry, journalOf, versionsOf, noJournal, noVersions, Showing, foundIn}
+use Rattle.rules.specs.Block.{blockOf}
 use Rattle.turns.specs.SerialRun.{cellsOf}
-use Rattle.turns.specs.declared.block.Block.{Block}
-use Rattle.turns.specs.declared.block.Journal.{Journal}
-use Rattle.turns.specs.declared.block.Versions.{Versions}
+use Rattle.rules.specs.declared.block.Block.{Block}
+use Rattle.rules.specs.declared.block.Journal.{Journal}
+use Rattle.rules.specs.declared.block.Versions.{Versions}
 use Rattle.turns.specs.declared.settled.Settling.{Settling}
 use Rattle.turns.specs.declared.settled.Settling.the-variants.{Written, WrongTable, Misfit}
 use Rattle.turns.specs.declared.settled.Settled.{Settled}

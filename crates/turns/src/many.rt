@@ -1,26 +1,26 @@
 // A list of tickets, each given its turn: one byte says what became of it.
-use crate::block::Block;
-use crate::marks::mark_above;
-use crate::own::Move;
-use crate::own::around_of;
-use crate::own::cell_read;
-use crate::own::own_of;
-use crate::own::shows_of;
-use crate::own::slot_of;
-use crate::own::take_own;
-use crate::program::program_step;
 use crate::sizes::block_fits;
 use crate::turn::index_of;
 use crate::turn::is_refused;
 use machine::counts::Ticket;
+use rules::block::Block;
+use rules::marks::mark_above;
+use rules::own::Move;
+use rules::own::around_of;
+use rules::own::cell_read;
+use rules::own::own_of;
+use rules::own::shows_of;
+use rules::own::slot_of;
+use rules::own::take_own;
+use rules::program::program_step;
 use words::word::Word;
 ghost use mathlib.Core.Path.{_≡_};
 ghost use lib.ListN.{length};
 ghost use Rattle.theory.specs.Engine.{blockFits};
-ghost use Rattle.turns.specs.Box.{limits, box};
-ghost use Rattle.turns.specs.Block.{blockOf};
-ghost use Rattle.turns.specs.Turn.{wordOf};
-ghost use Rattle.turns.specs.Own.{Long};
+ghost use Rattle.rules.specs.Box.{limits, box};
+ghost use Rattle.rules.specs.Block.{blockOf};
+ghost use Rattle.rules.specs.Turn.{wordOf};
+ghost use Rattle.rules.specs.Own.{Long};
 ghost use Rattle.turns.specs.Many.{byteOf, TakesAll, Takes};
 
 pub enum Taking {

@@ -1,13 +1,4 @@
 // The opening: a block in work with every job fresh; or a refusal, and a block with no jobs and an all-zero table.
-use crate::block::Block;
-use crate::block::Checkpoint;
-use crate::block::Program;
-use crate::block::Read;
-use crate::block::Reads;
-use crate::program::programs_of;
-use crate::program::stops;
-use crate::serial::no_entries;
-use crate::versions::no_versions;
 use machine::counts::Cell;
 use machine::counts::Place;
 use machine::counts::Ticket;
@@ -16,13 +7,22 @@ use machine::paper::Field;
 use machine::paper::Verdict;
 use machine::paper::check_paper;
 use machine::verdict::Fault;
+use rules::block::Block;
+use rules::block::Checkpoint;
+use rules::block::Program;
+use rules::block::Read;
+use rules::block::Reads;
+use rules::journal::no_entries;
+use rules::program::programs_of;
+use rules::program::stops;
+use rules::versions::no_versions;
 ghost use mathlib.Core.Path.{_≡_};
 ghost use mathlib.Core.List.{[]};
 ghost use lib.ListN.{length, replicate};
 ghost use Rattle.machine.specs.Limits.{CELLS};
 ghost use Rattle.machine.specs.Paper.{refusal};
 ghost use Rattle.machine.specs.View.{answerOf};
-ghost use Rattle.turns.specs.View.{emptyReads};
+ghost use Rattle.rules.specs.View.{emptyReads};
 ghost use Rattle.turns.specs.Open.{filledBlock, wholeBlock, openingOf, Opens};
 
 pub enum Opening {

@@ -1,10 +1,4 @@
 // The serial run: the jobs of a paper one after another, each alone on the table that those before it left.
-use crate::block::Entry;
-use crate::block::Journal;
-use crate::journal::Found;
-use crate::journal::entry_at;
-use crate::journal::last_entry;
-use crate::journal::with_entry;
 use crate::open::Opening;
 use crate::open::refuse_opening;
 use machine::counts::Cell;
@@ -15,6 +9,13 @@ use machine::paper::check_paper;
 use machine::step::Act;
 use machine::step::Stepped;
 use machine::step::instruct;
+use rules::block::Entry;
+use rules::block::Journal;
+use rules::journal::Found;
+use rules::journal::entry_at;
+use rules::journal::last_entry;
+use rules::journal::no_entries;
+use rules::journal::with_entry;
 ghost use mathlib.Core.Path.{_≡_};
 ghost use mathlib.Core.Bool.{true, false};
 ghost use mathlib.Core.List.{[]};
@@ -23,28 +24,16 @@ ghost use lib.ListN.{length};
 ghost use Rattle.theory.specs.Serial.{over};
 ghost use Rattle.machine.specs.Limits.{LONGEST, FEW, JOBS, CELLS};
 ghost use Rattle.machine.specs.View.{codeOf};
-ghost use Rattle.turns.specs.View.{emptyJournal, journalOf};
+ghost use Rattle.rules.specs.View.{journalOf};
 ghost use Rattle.turns.specs.SerialRun.{cellsOf, Serves};
-ghost use Rattle.turns.specs.Alone.{StepsIn, Writes, Leaves, Goes, GoesOn, Begins, Passes, AllPass, Applies, RunsJob, RunsAll};
+ghost use Rattle.rules.specs.Steps.{StepsIn, Passes, AllPass};
+ghost use Rattle.turns.specs.Alone.{Writes, Leaves, Goes, GoesOn, Begins, Applies, RunsJob, RunsAll};
 
 // A job alone: its state, its journal, and whether it has ended. The journal of a job that has ended holds the writes that it applies.
 struct Alone {
     ended: bool,
     state: State,
     journal: Journal,
-}
-
-pub(crate) fn no_entries() -> Journal
-    ensures { λ r. ⌜ (r ≡ emptyJournal) × (journalOf r ≡ []) ⌝ }
-{
-    let none = Entry {
-        cell: Cell(0),
-        value: 0,
-    };
-    Journal {
-        entries: [none; Job::FEW as usize],
-        size: 0,
-    }
 }
 
 // A job alone reads its own last write of a cell, else the table.

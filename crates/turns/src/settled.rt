@@ -1,18 +1,18 @@
 // The settled table: what the final jobs leave, read from the versions.
-use crate::block::Block;
-use crate::block::Journal;
-use crate::block::Versions;
-use crate::journal::entry_at;
 use crate::serial::copy_table;
 use crate::sizes::block_fits;
 use machine::counts::Cell;
 use machine::job::Job;
+use rules::block::Block;
+use rules::block::Journal;
+use rules::block::Versions;
+use rules::journal::entry_at;
 ghost use mathlib.Core.Path.{_≡_};
 ghost use Prim.Native.Nat.{_≤_};
 ghost use lib.ListN.{length};
 ghost use Rattle.theory.specs.Lists.{tab};
 ghost use Rattle.machine.specs.Limits.{JOBS, CELLS};
-ghost use Rattle.turns.specs.View.{Showing};
+ghost use Rattle.rules.specs.View.{Showing};
 ghost use Rattle.turns.specs.Settled.{finalOne, finalsBelow, cellFound, InTable, Showed, Settleable, Settles};
 
 // Whether the table was written, and else 12 or 20.

@@ -1,46 +1,41 @@
 // One turn of a block in work.
-use crate::block::Block;
-use crate::block::Checkpoint;
-use crate::block::Journal;
-use crate::block::Program;
-use crate::block::Reads;
-use crate::block::Versions;
-use crate::marks::mark_above;
-use crate::own::Around;
-use crate::own::Move;
-use crate::own::Own;
-use crate::own::around_of;
-use crate::own::cell_read;
-use crate::own::own_of;
-use crate::own::shows_of;
-use crate::own::slot_of;
-use crate::own::stay;
-use crate::own::take_own;
-use crate::program::program_step;
-use crate::sizes::both;
-use crate::sizes::job_fits;
-use crate::sizes::jobs_in;
-use crate::sizes::kept_of;
 use machine::counts::Ticket;
 use machine::job::Job;
 use machine::job::State;
 use machine::step::Act;
 use machine::step::Stepped;
+use rules::block::Block;
+use rules::block::Checkpoint;
+use rules::block::Journal;
+use rules::block::Program;
+use rules::block::Reads;
+use rules::block::Turned;
+use rules::block::Versions;
+use rules::marks::mark_above;
+use rules::own::Around;
+use rules::own::Move;
+use rules::own::Own;
+use rules::own::around_of;
+use rules::own::cell_read;
+use rules::own::own_of;
+use rules::own::shows_of;
+use rules::own::slot_of;
+use rules::own::stay;
+use rules::own::take_own;
+use rules::program::program_step;
+use rules::sizes::both;
+use rules::sizes::job_fits;
+use rules::sizes::jobs_in;
+use rules::sizes::kept_of;
 use words::word::Word;
 ghost use mathlib.Core.Path.{_≡_};
 ghost use mathlib.Core.Bool.{false, not, cond, _||_};
 ghost use Prim.Native.Nat.{_-_, _≤_, _<_};
 ghost use lib.ListN.{set};
 ghost use Rattle.machine.specs.Limits.{LONGEST};
-ghost use Rattle.turns.specs.Turn.{foreign, refusing, Turns};
-ghost use Rattle.turns.specs.Own.{showsOf, markedBy, AtTurn, Ready, StepsIf, MovesIf, MayMark};
+ghost use Rattle.rules.specs.Turn.{foreign, refusing, Turns};
+ghost use Rattle.rules.specs.Own.{showsOf, markedBy, AtTurn, Ready, StepsIf, MovesIf, MayMark};
 ghost use Rattle.turns.specs.Change.{changeBy, Changes};
-
-// The block stands first, so that it is handed over in one piece.
-pub struct Turned {
-    pub block: Block,
-    pub word: Word,
-}
 
 // What a turn changes of a block: the parts of the job at an index, the checkpoint in a slot, and the lists of reads, among
 // which it may mark.

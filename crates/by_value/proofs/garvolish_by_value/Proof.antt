@@ -3,7 +3,7 @@
 use Prim.Native.Nat.{_-_}
 use lib.ListN.{length}
 use borrow.Author.Needs.{needs}
-use Rattle.turns.specs.Block.{blockOf}
+use Rattle.rules.specs.Block.{blockOf}
 use Rattle.turns.specs.Going.{Going}
 use Rattle.turns.specs.Open.{openBlock}
 use Rattle.by_value.proofs.Laws.{hand-laws}

@@ -18,13 +18,13 @@ use Rattle.machine.specs.declared.instruction.Instruction.{Instruction}
 use Rattle.machine.specs.declared.verdict.Fault.{Fault}
 use Rattle.machine.specs.declared.paper.Field.{Field}
 use Rattle.machine.specs.declared.counts.Place.{Place}
-use Rattle.turns.specs.Box.{box, limits, box-promise}
-use Rattle.turns.specs.Block.{blockOf}
+use Rattle.rules.specs.Box.{box, limits, box-promise}
+use Rattle.rules.specs.Block.{blockOf}
 use Rattle.turns.specs.Many.{ifLong, takingOf, Takes}
 use Rattle.turns.specs.Open.{openAnswer, openBlock, openingOf, Opens}
 use Rattle.turns.specs.Settled as S
 use Rattle.turns.specs.Demands.{settled-is-serial, open-fits, open-finals}
-use Rattle.turns.specs.declared.block.Block.{Block}
+use Rattle.rules.specs.declared.block.Block.{Block}
 use Rattle.turns.specs.declared.many.Taken.{Taken}
 use Rattle.turns.specs.declared.many.Taking.the-variants.{Taken as AllTaken, WrongLength as NotTaken}
 use Rattle.turns.specs.declared.open.Opened.{Opened}

@@ -41,9 +41,9 @@ use denote.Triple.Spec.{Meets, tripleOf}
 use denote.Triple.Table.{entered, cited}
 use denote.Triple.Walked.{says, Stays, stay-ref, stay-none-slice, walkOf, AllGo, goes-none-slice, goes-ref, Walks, ends-at, walked, walk-meets}
 use denote.Exit.{yes}
-use Rattle.turns.specs.declared.block.Block.{Block}
-use Rattle.turns.proofs.block.Block as T
-use Rattle.turns.proofs.block.Block.Laws as T′
+use Rattle.rules.specs.declared.block.Block.{Block}
+use Rattle.rules.proofs.block.Block as T
+use Rattle.rules.proofs.block.Block.Laws as T′
 use Rattle.garvolish.specs.Numbers.{OpensTo}
 use Rattle.garvolish.specs.declared.number.Numbered.{Numbered}
 use Rattle.garvolish.proofs.Spelled.{val, numberedVal, number-is, spelled, numbered-is, block-is, in-numbered}

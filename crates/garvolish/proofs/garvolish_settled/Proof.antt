@@ -39,9 +39,9 @@ use denote.Triple.Spec.{Meets, tripleOf}
 use denote.Triple.Table.{entered, cited}
 use denote.Triple.Walked.{says, Stays, stay-none-ref, gave-slice, walkOf, AllGo, goes-none-ref, goes-gave-slice, Walks, ends-at, walked, walk-meets}
 use denote.Exit.{yes}
-use Rattle.turns.specs.declared.block.Block.{Block}
-use Rattle.turns.proofs.block.Block as T
-use Rattle.turns.proofs.block.Block.Laws as T′
+use Rattle.rules.specs.declared.block.Block.{Block}
+use Rattle.rules.proofs.block.Block as T
+use Rattle.rules.proofs.block.Block.Laws as T′
 use Rattle.garvolish.specs.Numbers.{SettlesTo}
 use Rattle.garvolish.proofs.Spelled.{val}
 use Rattle.garvolish.proofs.number.settled_number as called

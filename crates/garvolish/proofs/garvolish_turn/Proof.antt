@@ -50,21 +50,21 @@ use Rattle.machine.proofs.counts.Ticket as Tk
 use Rattle.machine.proofs.counts.Ticket.Laws as Tk′
 use Rattle.machine.proofs.job.State as St
 use Rattle.machine.proofs.job.State.Laws as St′
-use Rattle.turns.specs.Turn.{wordOf}
+use Rattle.rules.specs.Turn.{wordOf}
 use Rattle.turns.specs.Change.{changed, Changes}
-use Rattle.turns.specs.declared.block.Block.{Block}
+use Rattle.rules.specs.declared.block.Block.{Block}
 use Rattle.turns.specs.declared.turn.Change.{Change}
 use Rattle.words.specs.declared.word.Word.{Word}
-use Rattle.turns.proofs.block.Block as T
-use Rattle.turns.proofs.block.Block.Laws as T′
-use Rattle.turns.proofs.block.Checkpoint as Ck
-use Rattle.turns.proofs.block.Checkpoint.Laws as Ck′
-use Rattle.turns.proofs.block.Journal as Jn
-use Rattle.turns.proofs.block.Journal.Laws as Jn′
-use Rattle.turns.proofs.block.Reads as Rd
-use Rattle.turns.proofs.block.Reads.Laws as Rd′
-use Rattle.turns.proofs.block.Versions as Vn
-use Rattle.turns.proofs.block.Versions.Laws as Vn′
+use Rattle.rules.proofs.block.Block as T
+use Rattle.rules.proofs.block.Block.Laws as T′
+use Rattle.rules.proofs.block.Checkpoint as Ck
+use Rattle.rules.proofs.block.Checkpoint.Laws as Ck′
+use Rattle.rules.proofs.block.Journal as Jn
+use Rattle.rules.proofs.block.Journal.Laws as Jn′
+use Rattle.rules.proofs.block.Reads as Rd
+use Rattle.rules.proofs.block.Reads.Laws as Rd′
+use Rattle.rules.proofs.block.Versions as Vn
+use Rattle.rules.proofs.block.Versions.Laws as Vn′
 use Rattle.turns.proofs.turn.Change as R
 use Rattle.turns.proofs.turn.Change.Laws as R′
 use Rattle.words.proofs.word.Word as Wd

@@ -19,13 +19,13 @@ use Rattle.machine.specs.View.{number, number-some}
 use Rattle.machine.specs.declared.verdict.Fault.{Fault}
 use Rattle.machine.specs.declared.paper.Field.{Field}
 use Rattle.machine.specs.declared.counts.Place.{Place}
-use Rattle.turns.specs.Box.{box, limits, box-promise}
-use Rattle.turns.specs.Block.{blockOf}
+use Rattle.rules.specs.Box.{box, limits, box-promise}
+use Rattle.rules.specs.Block.{blockOf}
 use Rattle.turns.specs.Many.{words, byteOf, bytes, ifLong, Takes}
 use Rattle.turns.specs.Open.{openingOf, Opens}
 use Rattle.turns.specs.Settled.{unlessUnsettled, settledTable, Settles}
 use Rattle.turns.specs.Demands.{open-fits, open-finals}
-use Rattle.turns.specs.declared.block.Block.{Block}
+use Rattle.rules.specs.declared.block.Block.{Block}
 use Rattle.turns.specs.declared.many.Taken.{Taken}
 use Rattle.turns.specs.declared.open.Opened.{Opened}
 use Rattle.turns.specs.declared.open.Opening.{Opening}

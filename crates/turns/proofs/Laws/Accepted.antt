@@ -4,25 +4,17 @@ use mathlib.Core.Path.{_≡_, ap, sym, _∙_}
 use mathlib.Core.List.{List, []}
 use Prim.Native.Nat.{ℕ, _≤_, _<_}
 use native.Mathlib.Omega.{arith}
-use lib.ListN.{length, getD, length-map, List·getD-map}
-use Rattle.theory.specs.Lists.{firsts, length-firsts, getD-firsts}
+use lib.ListN.{length, getD}
 use Rattle.machine.specs.Paper.{jobs, paperAnswer}
 use Rattle.machine.specs.View.{codeOf, noJob, answerOf, Answers}
 use Rattle.machine.specs.declared.instruction.Instruction.{Instruction}
-use Rattle.machine.specs.declared.job.Job.{Job}
 use Rattle.machine.specs.declared.paper.Checked.{Checked}
 use Rattle.machine.specs.declared.paper.Verdict.{Verdict}
 use Rattle.machine.specs.declared.paper.Verdict.the-variants.{Accepted}
 use Rattle.promise.specs.Papers.{accepted-jobs}
-use Rattle.turns.specs.Program.{firstJobs}
-use Rattle.turns.specs.Alone.{AllPass}
-
-module _ (n : ℕ) (js : List Job) where
-  pub first-long : length (firstJobs n js) ≡ n
-  first-long = length-map (firsts n noJob js) codeOf ∙ length-firsts n noJob js
-
-  pub first-job : (k : ℕ) → k < n → getD (firstJobs n js) k [] ≡ codeOf (getD js k noJob)
-  first-job k l = List·getD-map codeOf (firsts n noJob js) k noJob ∙ ap codeOf (getD-firsts n noJob js k l)
+use Rattle.rules.specs.Program.{firstJobs}
+use Rattle.rules.proofs.Laws.Program.{first-long, first-job}
+use Rattle.rules.specs.Steps.{AllPass}
 
 abbrev pub jobsOf : Checked → List (List Instruction)
 jobsOf r = firstJobs (r .count) (r .jobs)

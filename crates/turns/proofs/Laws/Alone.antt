@@ -1,24 +1,22 @@
 -- A job alone: the code's instruction is the machine's, where a READ's value takes the place of the cell number;
 -- and each instruction keeps that the rest is the rest of the whole, with room in the journal for what may still be written.
 use mathlib.Core.Path.{_≡_, refl, ap, sym, subst, _∙_}
-use mathlib.Core.Bool.{Bool, true, false, not, cond, _&&_}
+use mathlib.Core.Bool.{true, false, not, _&&_}
 use mathlib.Core.List.{List, [], _∷_, _++_}
 use Prim.Native.Nat.{ℕ, suc, _+_, _≤_, _<_}
 use native.Mathlib.Omega.{arith}
-use lib.Dec.{eqb, leb, ltb}
-use lib.ListN.{length, getD, drop, length-append, length-drop}
-use borrow.Author.Tests.{eqb-true, leb-true, le-leb, not-true, not-false}
+use lib.Dec.{leb, ltb}
+use lib.ListN.{length, getD, length-append}
+use borrow.Author.Tests.{leb-true, not-true, not-false}
 use Rattle.theory.specs.Lists.{length-firsts, getD-firsts}
-use Rattle.theory.specs.Promise.{Act, nothing, read, write, stop, abandon, stuck}
+use Rattle.theory.specs.Promise.{Act}
 use Rattle.theory.specs.Every.{every-append}
 use Rattle.theory.specs.Engine as E
 use Rattle.theory.specs.Engine.{lastAt}
 use Rattle.theory.specs.Serial.{over, solo, alone}
 use Rattle.machine.specs.Limits.{ROOM, CELLS}
-use Rattle.machine.specs.Instruction.{STOP, ABANDON, READ, WRITE}
-use Rattle.machine.specs.Machine.{State as Plain, Running, stopping, current, starting, formed, sizes, inJob, cellOf, top, next as second, stays, stackAfter, moved, ready, asked, act, stepped, given}
+use Rattle.machine.specs.Machine.{State as Plain, Running, stopping, current, starting, formed, sizes, inJob, act, given}
 use Rattle.theory.specs.ReadSizes.{both}
-use Rattle.machine.specs.Able.{ready-all}
 use Rattle.machine.specs.View.{stateOf, codeOf, actOf, Steps}
 use Rattle.machine.specs.declared.counts.Cell.{Cell}
 use Rattle.machine.specs.declared.instruction.Instruction.{Instruction}
@@ -27,22 +25,21 @@ use Rattle.machine.specs.declared.job.State.{State}
 use Rattle.machine.specs.declared.step.Stepped.{Stepped}
 use Rattle.machine.specs.declared.step.Act.{Act as CodeAct}
 use Rattle.machine.specs.declared.step.Act.the-variants.{Nothing, Read, Write, Stop, Abandon, Stuck}
-use Rattle.turns.specs.Box.{box, boxChecked, box-promise}
-use Rattle.turns.specs.View.{entryOf, entriesOf, journalOf, length-journal, foundOf}
-use Rattle.turns.specs.Block.{runningOf}
+use Rattle.rules.specs.Box.{box, boxChecked, box-promise}
+use Rattle.rules.specs.View.{entryOf, journalOf, length-journal, foundOf}
+use Rattle.rules.specs.Block.{runningOf}
 use Rattle.turns.specs.SerialRun.{cellsOf}
-use Rattle.turns.specs.Alone.{StepsIn, Leaves, Runs, Goes, GoesOn, Begins, toGo, Passes}
-use Rattle.turns.specs.declared.block.Entry.{Entry}
-use Rattle.turns.specs.declared.block.Journal.{Journal}
-use Rattle.turns.specs.declared.journal.Found.{Found}
-use Rattle.turns.specs.declared.journal.Found.the-variants.{At, Nowhere}
+use Rattle.rules.specs.Steps.{StepsIn, Passes}
+use Rattle.turns.specs.Alone.{Leaves, Runs, Goes, GoesOn, Begins, toGo}
+use Rattle.rules.specs.declared.block.Entry.{Entry}
+use Rattle.rules.specs.declared.block.Journal.{Journal}
+use Rattle.rules.specs.declared.journal.Found.{Found}
+use Rattle.rules.specs.declared.journal.Found.the-variants.{At, Nowhere}
 use Rattle.turns.specs.declared.serial.Alone.{Alone}
-use Rattle.turns.proofs.Laws.Own.{own-low}
+use Rattle.rules.proofs.Laws.Own.{own-low}
+use Rattle.rules.proofs.Laws.Given.{given-is}
+use Rattle.rules.proofs.Laws.Words.{not-both}
 use Rattle.turns.proofs.Laws.Solo.{solo-stop, solo-abandon, rest-nothing, rest-read, rest-write}
-
-pub entries-none : (es : List Entry) → journalOf (record { entries = es; size = 0 }) ≡ []
-unfolding entriesOf
-entries-none es = refl
 
 -- ---- what a job alone reads
 module _ (j : Journal) (c : ℕ) (r : Found) (er : foundOf r ≡ lastAt (journalOf j) c) where
@@ -61,34 +58,6 @@ pub steps-in : (job : Job) (s : State) (r : Stepped) → s .place .0 < job .size
     → StepsIn (codeOf job) s r
 steps-in job s r l h = record { steps = rw (length-firsts (job .size) stopping (job .code), getD-firsts (job .size) stopping (job .code) (s .place .0) l) h }
 
--- ---- the code's instruction is the machine's
-module _ (n : ℕ) (i : Instruction) (s : Plain) where
-  -- what is asked where a cell is read
-  pub reads : (c : ℕ) → act ROOM n i s ≡ read c → (ready ROOM n i s ≡ true) × (i .code ≡ READ)
-  unfolding act asked
-  reads c e = go (ready ROOM n i s) refl (eqb (i .code) STOP) (eqb (i .code) ABANDON) (eqb (i .code) READ) refl (eqb (i .code) WRITE) e
-    where
-      go : (r : Bool) → ready ROOM n i s ≡ r → (a b d : Bool) → eqb (i .code) READ ≡ d → (w : Bool)
-          → cond r (cond a stop (cond b abandon (cond d (read (cellOf (top (s .stack)))) (cond w (write (cellOf (top (s .stack))) (second (s .stack)) (moved i 0 s)) (nothing (moved i 0 s)))))) stuck ≡ read c
-          → (ready ROOM n i s ≡ true) × (i .code ≡ READ)
-      go true er false false true ed w e = (er, eqb-true _ _ ed)
-      go true er true b d ed w e = absurd (let z : _≡_ {A = ℕ} 0 1 = cc in omega arith)
-      go true er false true d ed w e = absurd (let z : _≡_ {A = ℕ} 0 1 = cc in omega arith)
-      go true er false false false ed true e = absurd (let z : _≡_ {A = ℕ} 0 1 = cc in omega arith)
-      go true er false false false ed false e = absurd (let z : _≡_ {A = ℕ} 0 1 = cc in omega arith)
-      go false er a b d ed w e = absurd (let z : _≡_ {A = ℕ} 0 1 = cc in omega arith)
-
-  -- a READ that is stepped over, then given its value, is a READ of that value
-  pub given-is : (c v : ℕ) → act ROOM n i s ≡ read c → given ROOM v (stepped ROOM n i s) ≡ moved i v s
-  unfolding given stepped moved stackAfter stays
-  given-is c v e = rw (w .0, w .1, le-leb _ _ low) refl
-    where
-      w : (ready ROOM n i s ≡ true) × (i .code ≡ READ)
-      w = reads c e
-
-      low : suc (length (drop 1 (s .stack))) ≤ 16
-      low = omega (arith, length-drop 1 (s .stack), ready-all ROOM n i s (w .0) .within)
-
 -- a state of a job that passed stands in its job
 module _ (job : Job) (T : ℕ → ℕ) (a : Alone) (e : a .ended ≡ false) (g : Goes (codeOf job) T a) where
   pub place-in : a .state .place .0 < job .size
@@ -102,9 +71,6 @@ module _ (job : Job) (T : ℕ → ℕ) (a : Alone) (e : a .ended ≡ false) (g :
       let y = both (leb n 64 && formed (codeOf job) n n) (ltb (a .state .place .0) n) (x .0) in
       let z = leb-true n 64 (both (leb n 64) (formed (codeOf job) n n) (y .0) .0) in
       omega (arith, z, length-firsts (job .size) stopping (job .code))
-
-pub not-both : {A : Type 0} → false ≡ true → A
-not-both q = absurd (let z : _≡_ {A = ℕ} 0 1 = cc in omega arith)
 
 module _ (is : List Instruction) (T : ℕ → ℕ) (a : Alone) (r : Stepped) (ended : a .ended ≡ false) (g : Goes is T a) (er : StepsIn is (a .state) r) where
   abbrev here : Running

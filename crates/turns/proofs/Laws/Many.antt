@@ -12,15 +12,15 @@ use Rattle.theory.specs.Engine as E
 use Rattle.theory.specs.ReadSizes.{both}
 use Rattle.theory.specs.Sizes.{turn-fits}
 use Rattle.machine.specs.Machine.{Running}
-use Rattle.turns.specs.Box.{box, box-promise, limits}
-use Rattle.turns.specs.Block.{blockOf}
-use Rattle.turns.specs.Turn.{wordOf, leaves, foreign, Keeps, Turns}
-use Rattle.turns.specs.Own.{Long}
+use Rattle.rules.specs.Box.{box, box-promise, limits}
+use Rattle.rules.specs.Block.{blockOf}
+use Rattle.rules.specs.Turn.{wordOf, leaves, foreign, Keeps, Turns}
+use Rattle.rules.specs.Own.{Long}
 use Rattle.turns.specs.Going.{Going, going-start, going-on, all-written, all-taken}
 use Rattle.turns.specs.Many.{words, byteOf, takingOf, ifLong, allLeave, TakesAll, Takes}
-use Rattle.turns.specs.declared.block.Block.{Block}
+use Rattle.rules.specs.declared.block.Block.{Block}
 use Rattle.words.specs.declared.word.Word.the-variants.{BadTicket, Stuck}
-use Rattle.turns.specs.declared.turn.Turned.{Turned}
+use Rattle.rules.specs.declared.block.Turned.{Turned}
 use Rattle.turns.specs.declared.many.Taking.the-variants.{Taken as AllTaken, WrongLength}
 use Rattle.turns.proofs.Laws.Turn.{keeps-same, keeps-on, turn-foreign, turn-misfit}
 

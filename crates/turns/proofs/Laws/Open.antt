@@ -20,21 +20,21 @@ use Rattle.machine.specs.declared.paper.Field.{Field}
 use Rattle.machine.specs.declared.paper.Verdict.{Verdict}
 use Rattle.machine.specs.declared.paper.Verdict.the-variants.{Accepted as AcceptedPaper, Refused as RefusedPaper}
 use Rattle.machine.specs.declared.verdict.Fault.{Fault}
-use Rattle.turns.specs.Program.{noProgram, stopsOf, packed, programOf, allPacked}
-use Rattle.turns.specs.View.{entriesOf, versionsOf, markOf, noJournal, noVersions, noReads, emptyJournal, emptyVersions, emptyReads}
-use Rattle.turns.specs.Box.{box, limits}
-use Rattle.turns.specs.Block.{noState, readsOf, jobOf, blockOf}
+use Rattle.rules.specs.Program.{noProgram, stopsOf, packed, programOf, allPacked}
+use Rattle.rules.specs.View.{entriesOf, versionsOf, markOf, noJournal, noVersions, noReads, emptyJournal, emptyVersions, emptyReads}
+use Rattle.rules.specs.Box.{box, limits}
+use Rattle.rules.specs.Block.{noState, readsOf, jobOf, blockOf}
 use Rattle.turns.specs.Open.{nothingOpen, openedBy, openBlock, openAnswer, openingOf, filledBlock, wholeBlock, wholeBy, openWhole, Opens, freshBlock}
-use Rattle.turns.specs.declared.block.Journal.{Journal}
-use Rattle.turns.specs.declared.block.Versions.{Versions}
-use Rattle.turns.specs.declared.block.Reads.{Reads}
-use Rattle.turns.specs.declared.block.Program.{Program}
-use Rattle.turns.specs.declared.block.Block.{Block}
+use Rattle.rules.specs.declared.block.Journal.{Journal}
+use Rattle.rules.specs.declared.block.Versions.{Versions}
+use Rattle.rules.specs.declared.block.Reads.{Reads}
+use Rattle.rules.specs.declared.block.Program.{Program}
+use Rattle.rules.specs.declared.block.Block.{Block}
 use Rattle.turns.specs.declared.open.Opening.{Opening}
 use Rattle.turns.specs.declared.open.Opening.the-variants.{Accepted, WrongTable, Refused}
 use Rattle.turns.proofs.Laws.Accepted.{jobsOf, jobs-long, job-is, accepted, few-jobs, all-pass}
-use Rattle.turns.proofs.Laws.Filled.{tab-getD}
-use Rattle.turns.proofs.Laws.Program.{passed-few, packed-stands}
+use Rattle.rules.proofs.Laws.Filled.{tab-getD}
+use Rattle.rules.proofs.Laws.Program.{passed-few, packed-stands}
 
 -- ---- the fresh jobs
 pub fresh-is : (table : List ℕ) (n : ℕ) (ps : List Program) (s : State) (j : Journal) (v : Versions) (r : Reads) → s ≡ freshState → j ≡ emptyJournal → v ≡ emptyVersions → r ≡ emptyReads

@@ -28,16 +28,17 @@ use Rattle.machine.specs.declared.paper.Field.{Field}
 use Rattle.machine.specs.declared.paper.Checked.{Checked}
 use Rattle.machine.specs.declared.paper.Verdict.{Verdict}
 use Rattle.machine.specs.declared.paper.Verdict.the-variants.{Accepted, Refused as RefusedPaper}
-use Rattle.turns.specs.Box.{box}
-use Rattle.turns.specs.View.{entryOf, entriesOf, journalOf, length-journal}
+use Rattle.rules.specs.Box.{box}
+use Rattle.rules.specs.View.{entryOf, entriesOf, journalOf, length-journal}
 use Rattle.turns.specs.SerialRun.{cellsOf, ranOn, outputAfter, unlessWrong, serialAnswer, serialTable, Serves}
 use Rattle.turns.specs.Open.{openingOf}
-use Rattle.turns.specs.Alone.{Writes, Leaves, Passes, AllPass, Applies, RunsJob, RunsAll}
-use Rattle.turns.specs.declared.block.Entry.{Entry}
-use Rattle.turns.specs.declared.block.Journal.{Journal}
+use Rattle.rules.specs.Steps.{Passes, AllPass}
+use Rattle.turns.specs.Alone.{Writes, Leaves, Applies, RunsJob, RunsAll}
+use Rattle.rules.specs.declared.block.Entry.{Entry}
+use Rattle.rules.specs.declared.block.Journal.{Journal}
 use Rattle.turns.specs.declared.open.Opening.{Opening}
 use Rattle.turns.specs.declared.open.Opening.the-variants.{Accepted as Ran, WrongTable}
-use Rattle.turns.proofs.Laws.Journal.{entry-is}
+use Rattle.rules.proofs.Laws.Journal.{entry-is}
 use Rattle.turns.proofs.Laws.Accepted.{jobsOf, jobs-long, job-is, accepted, few-jobs, all-pass}
 
 -- ---- writes in order

@@ -14,21 +14,21 @@ use borrow.Author.Tests.{not-true, not-false, eq-eqb, ne-eqb, le-leb, lt-leb}
 use Rattle.theory.specs.Lists.{tab, tab-same, length-tab, getD-tab}
 use Rattle.theory.specs.Engine as E
 use Rattle.machine.specs.Machine.{Running}
-use Rattle.turns.specs.Box.{box, limits}
-use Rattle.turns.specs.View.{noEntry, entryOf, entriesOf, journalOf, versionsOf, noJournal, noVersions, Showing, versionAt, foundIn}
-use Rattle.turns.specs.Block.{jobOf, blockOf}
-use Rattle.turns.specs.Fitting.{count-fit, block-fit}
-use Rattle.turns.specs.Turn.{jobs, cells}
+use Rattle.rules.specs.Box.{box, limits}
+use Rattle.rules.specs.View.{noEntry, entryOf, entriesOf, journalOf, versionsOf, noJournal, noVersions, Showing, versionAt, foundIn}
+use Rattle.rules.specs.Block.{jobOf, blockOf}
+use Rattle.rules.specs.Fitting.{count-fit, block-fit}
+use Rattle.rules.specs.Turn.{jobs, cells}
 use Rattle.turns.specs.Settled.{finalOne, finalsBelow, cellFound, InTable, shownOver, Showed, Settleable, unlessUnsettled, refusalOf, settledAnswer, settledCount, settledTable, Settles}
 use Rattle.turns.specs.SerialRun.{cellsOf}
-use Rattle.turns.specs.declared.block.Block.{Block}
-use Rattle.turns.specs.declared.block.Entry.{Entry}
-use Rattle.turns.specs.declared.block.Journal.{Journal}
-use Rattle.turns.specs.declared.block.Versions.{Versions}
+use Rattle.rules.specs.declared.block.Block.{Block}
+use Rattle.rules.specs.declared.block.Entry.{Entry}
+use Rattle.rules.specs.declared.block.Journal.{Journal}
+use Rattle.rules.specs.declared.block.Versions.{Versions}
 use Rattle.turns.specs.declared.settled.Settling.the-variants.{Written, WrongTable, Misfit}
-use Rattle.turns.proofs.Laws.Reading.{found-is}
-use Rattle.turns.proofs.Laws.Rules.{status-final}
-use Rattle.turns.proofs.Laws.Versions.{length-versions, cut}
+use Rattle.rules.proofs.Laws.Reading.{found-is}
+use Rattle.rules.proofs.Laws.Rules.{status-final}
+use Rattle.rules.proofs.Laws.Versions.{length-versions, cut}
 
 -- ---- the number of final jobs
 pub one-not : (s : ℕ) → s < 2 → 0 ≡ finalOne s

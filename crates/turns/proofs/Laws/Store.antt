@@ -10,47 +10,39 @@ use native.Mathlib.Decide.{ℕ-discrete, decLt}
 use lib.Dec.{ltb}
 use lib.ListN.{length, getD, set, length-set}
 use lib.Seq.{getD-set-same, getD-set-other}
-use borrow.Author.Tests.{eq-eqb, ne-eqb, lt-ltb, le-leb, lt-leb}
+use borrow.Author.Tests.{eq-eqb, ne-eqb, lt-ltb}
 use Rattle.theory.specs.Engine as E
 use Rattle.machine.specs.Limits.{LONGEST}
 use Rattle.machine.specs.declared.job.State.{State}
 use Rattle.machine.specs.declared.step.Act.the-variants.{Stuck as StuckAct}
 use Rattle.machine.specs.declared.step.Stepped.{Stepped}
-use Rattle.turns.specs.Box.{box, limits}
-use Rattle.turns.specs.Program.{noProgram, programOf}
-use Rattle.turns.specs.View.{noReads}
-use Rattle.turns.specs.Block.{codeAt, noState, noCheckpoint, blockOf}
-use Rattle.turns.specs.Alone.{StepsIn}
-use Rattle.turns.specs.Marks.{Shown, markReads, sweep, ListsFit}
-use Rattle.turns.specs.Fitting.{count-fit}
-use Rattle.turns.specs.Turn.{moving, foreign, refusing, Did, Keeps, Turns, Whole}
-use Rattle.turns.specs.Own.{still, slotAt, partsAt, ownOf, showsOf, markedBy, placed, storedAt, Long, Done, Moves, aroundOf, AtTurn, Asks, Ready, StepsIf, MovesIf, MayMark}
+use Rattle.rules.specs.Box.{box, limits}
+use Rattle.rules.specs.Program.{noProgram, programOf}
+use Rattle.rules.specs.View.{noReads}
+use Rattle.rules.specs.Block.{codeAt, noState, noCheckpoint, blockOf}
+use Rattle.rules.specs.Steps.{StepsIn}
+use Rattle.rules.specs.Marks.{Shown, markReads, sweep, ListsFit}
+use Rattle.rules.specs.Fitting.{count-fit}
+use Rattle.rules.specs.Turn.{moving, foreign, refusing, Did, Keeps, Turns, Whole}
+use Rattle.rules.specs.Own.{still, slotAt, partsAt, ownOf, showsOf, markedBy, placed, storedAt, Long, Done, Moves, aroundOf, AtTurn, Asks, Ready, StepsIf, MovesIf, MayMark}
 use Rattle.turns.specs.Change.{changeBy, Changes}
-use Rattle.turns.specs.declared.block.Program.{Program}
-use Rattle.turns.specs.declared.block.Reads.{Reads}
-use Rattle.turns.specs.declared.block.Block.{Block}
-use Rattle.turns.specs.declared.marks.Shows.{Shows}
-use Rattle.turns.specs.declared.own.Own.{Own}
-use Rattle.turns.specs.declared.own.Around.{Around}
-use Rattle.turns.specs.declared.own.Move.{Move}
+use Rattle.rules.specs.declared.block.Program.{Program}
+use Rattle.rules.specs.declared.block.Reads.{Reads}
+use Rattle.rules.specs.declared.block.Block.{Block}
+use Rattle.rules.specs.declared.marks.Shows.{Shows}
+use Rattle.rules.specs.declared.own.Own.{Own}
+use Rattle.rules.specs.declared.own.Around.{Around}
+use Rattle.rules.specs.declared.own.Move.{Move}
 use Rattle.turns.specs.declared.turn.Change.{Change}
 use Rattle.words.specs.declared.word.Word.{Word}
 use Rattle.words.specs.declared.word.Word.the-variants.{BadTicket, Stuck}
-use Rattle.turns.proofs.Laws.Alone.{not-both}
-use Rattle.turns.proofs.Laws.Words.{inside-of}
-use Rattle.turns.proofs.Laws.Reading.{below-showing}
-use Rattle.turns.proofs.Laws.Rules.{idle-leaves}
+use Rattle.rules.proofs.Laws.Words.{not-both}
+use Rattle.rules.proofs.Laws.Words.{inside-of}
+use Rattle.rules.proofs.Laws.Reading.{below-showing}
+use Rattle.rules.proofs.Laws.Rules.{idle-leaves}
 use Rattle.turns.proofs.Laws.Turn.{whole-fit, turn-foreign, turn-misfit, turn-taken}
-use Rattle.turns.proofs.Laws.Placed.{stored-still}
-use Rattle.turns.proofs.Laws.Take.{steps-cells}
-
--- ---- where a checkpoint stands
-module _ (i n : ℕ) where
-  pub slot-past : 8 ≤ n → 8 * i + 7 ≡ slotAt i n
-  slot-past l = rw (le-leb 8 n l) refl
-
-  pub slot-at : n < 8 → 8 * i + n ≡ slotAt i n
-  slot-at l = rw (lt-leb 8 n l) refl
+use Rattle.rules.proofs.Laws.Placed.{stored-still}
+use Rattle.rules.proofs.Laws.Take.{steps-cells}
 
 -- ---- whose ticket
 module _ (n t : ℕ) where

@@ -12,15 +12,15 @@ use Rattle.theory.specs.Word as W
 use Rattle.theory.specs.Engine as E
 use Rattle.machine.specs.Limits.{FEW}
 use Rattle.machine.specs.Machine.{Running}
-use Rattle.turns.specs.Box.{box, limits}
-use Rattle.turns.specs.View.{noReads}
-use Rattle.turns.specs.Block.{jobOf, blockOf}
-use Rattle.turns.specs.Fitting.{count-fit, block-fit}
-use Rattle.turns.specs.Turn.{wordOf, leaves, jobs, cells, moving, foreign, Did, Keeps, Turns, Whole}
-use Rattle.turns.specs.declared.block.Block.{Block}
+use Rattle.rules.specs.Box.{box, limits}
+use Rattle.rules.specs.View.{noReads}
+use Rattle.rules.specs.Block.{jobOf, blockOf}
+use Rattle.rules.specs.Fitting.{count-fit, block-fit}
+use Rattle.rules.specs.Turn.{wordOf, leaves, jobs, cells, moving, foreign, Did, Keeps, Turns, Whole}
+use Rattle.rules.specs.declared.block.Block.{Block}
 use Rattle.words.specs.declared.word.Word.the-variants.{BadTicket, Stuck}
-use Rattle.turns.specs.declared.turn.Turned.{Turned}
-use Rattle.turns.proofs.Laws.Reading.{job-at}
+use Rattle.rules.specs.declared.block.Turned.{Turned}
+use Rattle.rules.proofs.Laws.Reading.{job-at}
 
 -- ---- the whole turn
 pub whole-fit : (b : Block) → E.blockFits limits box (blockOf b) ≡ true → Whole b

@@ -4,7 +4,7 @@ use mathlib.Core.Path.{sym, _∙_}
 use Prim.Native.Nat.{_-_}
 use lib.ListN.{length, getD}
 use borrow.Author.Needs.{needs}
-use Rattle.turns.proofs.Laws.Take.{steps-cells}
+use Rattle.rules.proofs.Laws.Take.{steps-cells}
 use Rattle.turns.proofs.Laws.Store.{not-refused, marked-by, unmarked-by, few-tickets, standing, ready, may-mark, stored-turn, stored-long}
 use Rattle.turns.proofs.Laws.Many.{Looping, loop-start, loop-refused, loop-taken, loop-end}
 use Rattle.turns.proofs.many.take_all.Statement.{statement}

@@ -1,8 +1,8 @@
 -- 15 before any turn;
 -- else all turns are taken, and the answer says so.
 use borrow.Author.Needs.{needs}
-use Rattle.turns.specs.Own.{Long}
-use Rattle.turns.proofs.Laws.Arrays.{array-laws}
+use Rattle.rules.specs.Own.{Long}
+use Rattle.rules.proofs.Laws.Arrays.{array-laws}
 use Rattle.turns.proofs.Laws.Many.{taken-all, wrong-length}
 use Rattle.turns.proofs.many.take_turns.Statement.{statement}
 use Rattle.turns.proofs.many.take_turns.Tie as tie

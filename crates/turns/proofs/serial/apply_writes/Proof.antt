@@ -4,7 +4,7 @@ use mathlib.Core.Path.{_≡_}
 use Prim.Native.Nat.{_≤_, _-_}
 use lib.ListN.{length}
 use Rattle.theory.specs.Serial.{over}
-use Rattle.turns.specs.View.{entriesOf}
+use Rattle.rules.specs.View.{entriesOf}
 use Rattle.turns.specs.SerialRun.{cellsOf}
 use Rattle.turns.specs.Alone.{Writes}
 use borrow.Author.Needs.{needs}

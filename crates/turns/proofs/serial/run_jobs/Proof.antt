@@ -1,9 +1,10 @@
 -- The table is that of the first k jobs,
 -- and job k alone on it makes that of one more.
 use Prim.Native.Nat.{_≤_, _-_}
-use Rattle.turns.specs.Alone.{AllPass, RunsAll}
+use Rattle.rules.specs.Steps.{AllPass}
+use Rattle.turns.specs.Alone.{RunsAll}
 use borrow.Author.Needs.{needs}
-use Rattle.turns.proofs.Laws.Arrays.{array-laws}
+use Rattle.rules.proofs.Laws.Arrays.{array-laws}
 use Rattle.turns.proofs.Laws.Serial.{jobs-laws}
 use Rattle.turns.proofs.serial.run_jobs.Statement.{statement}
 use Rattle.turns.proofs.serial.run_jobs.Tie as tie

@@ -4,7 +4,7 @@ use mathlib.Core.Path.{_≡_}
 use Prim.Native.Nat.{_≤_}
 use lib.ListN.{length, drop}
 use borrow.Author.Needs.{needs}
-use Rattle.turns.specs.View.{versionsOf, Showing}
+use Rattle.rules.specs.View.{versionsOf, Showing}
 use Rattle.turns.specs.SerialRun.{cellsOf}
 use Rattle.turns.specs.Settled.{InTable, shownOver}
 use Rattle.turns.proofs.Laws.Settled.{shows-laws}

@@ -2,8 +2,8 @@
 -- so those that are left decide.
 use Prim.Native.Nat.{_-_}
 use borrow.Author.Needs.{needs}
-use Rattle.turns.proofs.Laws.Arrays.{array-laws}
-use Rattle.turns.proofs.Laws.Sizes.{Testing, test-start, test-on, test-end}
+use Rattle.rules.proofs.Laws.Arrays.{array-laws}
+use Rattle.rules.proofs.Laws.Sizes.{Testing, test-start, test-on, test-end}
 use Rattle.turns.proofs.sizes.block_fits.Statement.{statement}
 use Rattle.turns.proofs.sizes.block_fits.Tie as tie
 

@@ -3,7 +3,7 @@
 use mathlib.Core.Path.{ap}
 use borrow.Author.Needs.{needs}
 use Rattle.turns.specs.Change.{changeBy}
-use Rattle.turns.proofs.Laws.Arrays.{array-laws}
+use Rattle.rules.proofs.Laws.Arrays.{array-laws}
 use Rattle.turns.proofs.Laws.Store.{marked-by, unmarked-by, marking}
 use Rattle.turns.proofs.turn.change_by.Statement.{statement}
 use Rattle.turns.proofs.turn.change_by.Tie as tie

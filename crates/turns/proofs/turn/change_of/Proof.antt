@@ -3,10 +3,10 @@
 use mathlib.Core.Path.{ap, _∙_}
 use Prim.Native.Nat.{_-_}
 use borrow.Author.Needs.{needs}
-use Rattle.turns.specs.Turn.{refusing}
-use Rattle.turns.specs.Own.{Long}
-use Rattle.turns.proofs.Laws.Arrays.{array-laws}
-use Rattle.turns.proofs.Laws.Sizes.{Testing, test-start, test-on, test-end}
+use Rattle.rules.specs.Turn.{refusing}
+use Rattle.rules.specs.Own.{Long}
+use Rattle.rules.proofs.Laws.Arrays.{array-laws}
+use Rattle.rules.proofs.Laws.Sizes.{Testing, test-start, test-on, test-end}
 use Rattle.turns.proofs.Laws.Store.{few-if, standing-if, ready-if, may-mark-if, changes-if}
 use Rattle.turns.proofs.turn.change_of.Statement.{statement}
 use Rattle.turns.proofs.turn.change_of.Tie as tie

@@ -1,7 +1,7 @@
 -- Each part that the turn changes
 -- is stored where it stood.
 use borrow.Author.Needs.{needs}
-use Rattle.turns.proofs.Laws.Arrays.{array-laws}
+use Rattle.rules.proofs.Laws.Arrays.{array-laws}
 use Rattle.turns.proofs.turn.turn.Statement.{statement}
 use Rattle.turns.proofs.turn.turn.Tie as tie
 

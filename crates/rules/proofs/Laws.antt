@@ -1,0 +1,19 @@
+-- One law for each return of the code, over plain variables; a function's laws stand in one ruleset.
+pub mod Arrays
+pub mod Filled
+pub mod Journal
+pub mod Versions
+pub mod Marks
+pub mod Moves
+pub mod Own
+pub mod Given
+pub mod Words
+pub mod Reading
+pub mod Instruct
+pub mod Rules
+pub mod Placed
+pub mod Take
+pub mod Tests
+pub mod Code
+pub mod Program
+pub mod Sizes
