@@ -12,7 +12,7 @@
  * What a statement leaves open (docs/EXCEPTIONS.md has each case, and why no answer depends on it):
  * - padding: the bytes between two fields, which belong to none;
  * - after a turn that changed the block, entries past a count: of a stack past its height, of a journal, versions and reads
- *   past their size, and checkpoints past the listed reads.
+ *   past their size, checkpoints past the listed reads, and what belongs to a job past the block's count.
  * An opened block is fixed in every part, 0 past every count; no turn changes an instruction, or a final job's status.
  * Two blocks that stand for the same may differ in what is open: compare them by their parts, not by their bytes.
  */

@@ -6,6 +6,7 @@ use Prim.Native.Nat.{ℕ, zero, suc, _+_, _/_, _%_, min}
 use lib.Dec.{eqb, ltb}
 use lib.ListN.{length, getD, set}
 use Rattle.theory.specs.Word as W
+unfoldable pub use Rattle.theory.specs.Word.{wordText}
 
 abbrev pub space : ℕ
 space = 32
@@ -21,17 +22,6 @@ digits (suc k) n = cond (ltb n 10) ((48 + n % 10) ∷ []) (digits k (n / 10) ++ 
 -- a value of 64 bits has at most 20 digits
 unfoldable pub decimal : ℕ → List ℕ
 decimal n = digits 20 n
-
--- the turn's word, `none` for refusal 14 or 20
-unfoldable pub wordText : W.Word → List ℕ
-wordText W.idle = 105 ∷ 100 ∷ 108 ∷ 101 ∷ []
-wordText W.back = 98 ∷ 97 ∷ 99 ∷ 107 ∷ []
-wordText W.step = 115 ∷ 116 ∷ 101 ∷ 112 ∷ []
-wordText W.end = 101 ∷ 110 ∷ 100 ∷ []
-wordText W.final = 102 ∷ 105 ∷ 110 ∷ 97 ∷ 108 ∷ []
-wordText W.wait = 119 ∷ 97 ∷ 105 ∷ 116 ∷ []
-wordText W.badTicket = 110 ∷ 111 ∷ 110 ∷ 101 ∷ []
-wordText W.stuck = 110 ∷ 111 ∷ 110 ∷ 101 ∷ []
 
 -- the text of the word that a byte stands for, in the order of the turn rules
 unfoldable pub byteText : ℕ → List ℕ

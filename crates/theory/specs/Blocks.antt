@@ -18,7 +18,7 @@ use Rattle.theory.specs.Engine.{Job, Block, final, Limits, shown, markJo
 use Rattle.theory.specs.Runs.{begin}
 use Rattle.theory.specs.Marks.{same-marks-none}
 use Rattle.theory.specs.Invariant.{Good, Invariant, change, change-at, change-low, change-high, change-keeps, stays-final}
-use Rattle.theory.specs.Moves.{changes, move-right, move-unchanged, running≢final}
+use Rattle.theory.specs.Moves.{move-right, move-unchanged, running≢final}
 
 -- a change of a job to itself changes nothing
 markJob-same : {S : Type 0} (w : ℕ → Option ℕ) (t : ℕ) (b : Job S) → markJob w w t b ≡ b
@@ -89,27 +89,6 @@ module _ (L : Limits) (M : Machine) where
       go false p false q false r = misfit r
       go false p false q true r = let n = eqb-false t 0 p in let l = ltb-false (length (b .jobs)) t q in taken (t - 1) (omega arith) (omega arith) r
 
-  -- a move changes the block by its job's new record, or leaves the block as it was
-  pub moveTo-word : (b : Block S) (i : ℕ) (w : W.Word) (j : Job S) → moveTo L M b i w j .word ≡ w
-  moveTo-word b i W.idle j = refl
-  moveTo-word b i W.back j = refl
-  moveTo-word b i W.step j = refl
-  moveTo-word b i W.end j = refl
-  moveTo-word b i W.final j = refl
-  moveTo-word b i W.wait j = refl
-  moveTo-word b i W.badTicket j = refl
-  moveTo-word b i W.stuck j = refl
-
-  pub moveTo-block : (b : Block S) (i : ℕ) (w : W.Word) (j : Job S) → moveTo L M b i w j .block ≡ cond (changes w) (changedBlock b i j) b
-  moveTo-block b i W.idle j = refl
-  moveTo-block b i W.back j = refl
-  moveTo-block b i W.step j = refl
-  moveTo-block b i W.end j = refl
-  moveTo-block b i W.final j = refl
-  moveTo-block b i W.wait j = refl
-  moveTo-block b i W.badTicket j = refl
-  moveTo-block b i W.stuck j = refl
-
   abbrev moveBlock : Block S → ℕ → Block S
   moveBlock b i = moveTo L M b i (moveAt L M b i .word) (moveAt L M b i .job) .block
 
@@ -118,7 +97,7 @@ module _ (L : Limits) (M : Machine) where
     j = moveAt L M b i .job
 
     move-table : moveBlock b i .table ≡ b .table
-    move-table = rw (moveTo-block b i (moveAt L M b i .word) j) (go (changes (moveAt L M b i .word)))
+    move-table = go (W.changes (moveAt L M b i .word))
       where
         go : (t : Bool) → cond t (changedBlock b i j) b .table ≡ b .table
         go true = refl
@@ -126,16 +105,16 @@ module _ (L : Limits) (M : Machine) where
 
     module _ (h : i < length (b .jobs)) where
       move-length : length (moveBlock b i .jobs) ≡ length (b .jobs)
-      move-length = rw (moveTo-block b i (moveAt L M b i .word) j) (go (changes (moveAt L M b i .word)))
+      move-length = go (W.changes (moveAt L M b i .word))
         where
           go : (t : Bool) → length (cond t (changedBlock b i j) b .jobs) ≡ length (b .jobs)
           go true = changed-length b i j h
           go false = refl
 
       pub move-jobs : (k : ℕ) → jobAt L M (moveBlock b i) k ≡ change (jobAt L M b) i j k
-      move-jobs k = rw (moveTo-block b i (moveAt L M b i .word) j) (go (changes (moveAt L M b i .word)) refl)
+      move-jobs k = go (W.changes (moveAt L M b i .word)) refl
         where
-          go : (t : Bool) → changes (moveAt L M b i .word) ≡ t → jobAt L M (cond t (changedBlock b i j) b) k ≡ change (jobAt L M b) i j k
+          go : (t : Bool) → W.changes (moveAt L M b i .word) ≡ t → jobAt L M (cond t (changedBlock b i j) b) k ≡ change (jobAt L M b) i j k
           go true e = changed-at b i j h k
           go false e = rw (move-unchanged (L .few) M (cellAt L M b) (jobAt L M b) i e) (sym (change-same (jobAt L M b) i k))
 

@@ -305,16 +305,9 @@ module _ (L : Limits) (M : Machine) where
     pub word : W.Word
     pub block : Block S
 
-  -- a move that is stuck leaves the block as it was
+  -- a move's word says whether the block changes
   abbrev pub moveTo : Block S → ℕ → W.Word → Job S → Turned
-  moveTo b i W.stuck j = record { word = W.stuck; block = b }
-  moveTo b i W.badTicket j = record { word = W.badTicket; block = b }
-  moveTo b i W.idle j = record { word = W.idle; block = b }
-  moveTo b i W.wait j = record { word = W.wait; block = b }
-  moveTo b i W.back j = record { word = W.back; block = record { table = b .table; jobs = changed (b .jobs) i (jobAt b i) j } }
-  moveTo b i W.step j = record { word = W.step; block = record { table = b .table; jobs = changed (b .jobs) i (jobAt b i) j } }
-  moveTo b i W.end j = record { word = W.end; block = record { table = b .table; jobs = changed (b .jobs) i (jobAt b i) j } }
-  moveTo b i W.final j = record { word = W.final; block = record { table = b .table; jobs = changed (b .jobs) i (jobAt b i) j } }
+  moveTo b i w j = record { word = w; block = cond (W.changes w) (record { table = b .table; jobs = changed (b .jobs) i (jobAt b i) j }) b }
 
   abbrev pub moveAt : Block S → ℕ → Moved S
   moveAt b i = move (L .few) M (cellAt b) (jobAt b) i

@@ -11,28 +11,18 @@ use lib.Dec.{ltb}
 use lib.ListN.{length, take, drop, getD}
 use lib.Seq.{split-at}
 use Rattle.theory.specs.Word as W
+use Rattle.theory.specs.Word.{finalWord}
 use Rattle.theory.specs.Promise.{Act, nothing, read, write, stop, abandon, stuck, Machine}
 use Rattle.theory.specs.Engine.{Job, Block, Limits, Status, running, ended, final, isFinal, shown, find, markJob, allFinal, lastValue, listedValue}
 use Rattle.theory.specs.Engine.{settle, moved, readStep, instructed, ruled, move, jobAt, nobody, cellAt, Turned, moveAt, turn, turns, finals}
 use Rattle.theory.specs.Invariant.{isFinal-true, allFinal-at, allFinal-of}
-use Rattle.theory.specs.Moves.{changes, running≢final}
-use Rattle.theory.specs.Blocks.{changedBlock, Outcome, no-such-job, misfit, taken, outcome, moveTo-word, moveTo-block, Sound}
+use Rattle.theory.specs.Moves.{running≢final}
+use Rattle.theory.specs.Blocks.{changedBlock, Outcome, no-such-job, misfit, taken, outcome, Sound}
 
 abbrev one : Bool → ℕ
 one t = cond t 1 0
 
--- 1 for the word final
-abbrev pub finalWord : W.Word → ℕ
-finalWord W.idle = 0
-finalWord W.back = 0
-finalWord W.step = 0
-finalWord W.end = 0
-finalWord W.final = 1
-finalWord W.wait = 0
-finalWord W.badTicket = 0
-finalWord W.stuck = 0
-
-unchanged-not-final : (w : W.Word) → changes w ≡ false → finalWord w ≡ 0
+unchanged-not-final : (w : W.Word) → W.changes w ≡ false → finalWord w ≡ 0
 unchanged-not-final W.idle e = refl
 unchanged-not-final W.back e = cc
 unchanged-not-final W.step e = cc
@@ -108,7 +98,7 @@ module _ (L : Limits) (M : Machine) where
       go : (u : Turned L M) → Outcome L M b t u → finals L M (u .block .jobs) ≡ finals L M (b .jobs) + finalWord (u .word)
       go u (no-such-job e) = omega arith
       go u (misfit e) = omega arith
-      go u (taken i e h x) = rw (moveTo-block L M b i w j, moveTo-word L M b i w j) (at (changes w) refl)
+      go u (taken i e h x) = at (W.changes w) refl
         where
           w : W.Word
           w = moveAt L M b i .word
@@ -116,7 +106,7 @@ module _ (L : Limits) (M : Machine) where
           j : Job S
           j = moveAt L M b i .job
 
-          at : (z : Bool) → changes w ≡ z → finals L M (cond z (changedBlock L M b i j) b .jobs) ≡ finals L M (b .jobs) + finalWord w
+          at : (z : Bool) → W.changes w ≡ z → finals L M (cond z (changedBlock L M b i j) b .jobs) ≡ finals L M (b .jobs) + finalWord w
           at true q = omega (arith, finals-changed b i j h, move-final (L .few) M (cellAt L M b) (jobAt L M b) i)
           at false q = omega (arith, unchanged-not-final w q)
 

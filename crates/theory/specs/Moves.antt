@@ -29,17 +29,6 @@ ended≢final e = let z : _≡_ {A = ℕ} 0 1 = cc in omega arith
 ended≢running : ended ≢ running
 ended≢running e = let z : _≡_ {A = ℕ} 0 1 = cc in omega arith
 
--- does a turn with this word change its job?
-abbrev pub changes : W.Word → Bool
-changes W.idle = false
-changes W.back = true
-changes W.step = true
-changes W.end = true
-changes W.final = true
-changes W.wait = false
-changes W.badTicket = false
-changes W.stuck = false
-
 module _ (few : ℕ) (M : Machine) (table : ℕ → ℕ) where
   open Machine M using (S, act, given)
 
@@ -158,23 +147,23 @@ module _ (few : ℕ) (M : Machine) (table : ℕ → ℕ) where
   move-right start st i g = ruled-right start st i (st i) g (st i .status) refl (st i .mark) refl
 
   -- a word that changes nothing leaves the job as it was
-  pub move-unchanged : (st : ℕ → Job S) (i : ℕ) → changes (move few M table st i .word) ≡ false → move few M table st i .job ≡ st i
+  pub move-unchanged : (st : ℕ → Job S) (i : ℕ) → W.changes (move few M table st i .word) ≡ false → move few M table st i .job ≡ st i
   unfolding move
   move-unchanged st i = go (st i .status) (st i .mark)
     where
       b : Job S
       b = st i
 
-      room : (t : Bool) (d : Job S) → changes (cond t (moved W.step d) (moved W.stuck b) .word) ≡ false → cond t (moved W.step d) (moved W.stuck b) .job ≡ b
+      room : (t : Bool) (d : Job S) → W.changes (cond t (moved W.step d) (moved W.stuck b) .word) ≡ false → cond t (moved W.step d) (moved W.stuck b) .job ≡ b
       room true d e = cc
       room false d e = refl
 
-      reads : (c : ℕ) (o o′ : Option ℕ) → changes (readStep few M table b c o o′ (find table st c i) .word) ≡ false → readStep few M table b c o o′ (find table st c i) .job ≡ b
+      reads : (c : ℕ) (o o′ : Option ℕ) → W.changes (readStep few M table b c o o′ (find table st c i) .word) ≡ false → readStep few M table b c o o′ (find table st c i) .job ≡ b
       reads c (some v) o′ e = cc
       reads c none (some v) e = cc
       reads c none none e = room (ltb (length (b .reads)) few) _ e
 
-      acts : (a : Act S) → changes (instructed few M table st i b a .word) ≡ false → instructed few M table st i b a .job ≡ b
+      acts : (a : Act S) → W.changes (instructed few M table st i b a .word) ≡ false → instructed few M table st i b a .job ≡ b
       acts (nothing s) e = cc
       acts (read c) e = reads c (lastValue (b .journal) c) (listedValue (b .reads) c) e
       acts (write c v s) e = room (ltb (length (b .journal)) few) _ e
@@ -182,11 +171,11 @@ module _ (few : ℕ) (M : Machine) (table : ℕ → ℕ) where
       acts abandon e = cc
       acts stuck e = refl
 
-      ends : (t : Bool) → changes (cond t (moved W.final (settle b)) (moved W.wait b) .word) ≡ false → cond t (moved W.final (settle b)) (moved W.wait b) .job ≡ b
+      ends : (t : Bool) → W.changes (cond t (moved W.final (settle b)) (moved W.wait b) .word) ≡ false → cond t (moved W.final (settle b)) (moved W.wait b) .job ≡ b
       ends true e = cc
       ends false e = refl
 
-      go : (s : Status) (o : Option ℕ) → changes (ruled few M table st i b s o .word) ≡ false → ruled few M table st i b s o .job ≡ b
+      go : (s : Status) (o : Option ℕ) → W.changes (ruled few M table st i b s o .word) ≡ false → ruled few M table st i b s o .job ≡ b
       go final o e = refl
       go running (some m) e = cc
       go running none e = acts (act (b .state)) e

@@ -11,7 +11,7 @@ use Rattle.theory.specs.Word as W
 use Rattle.theory.specs.Promise.{Machine, Promise, Checked, Passed}
 use Rattle.theory.specs.Engine.{Block, Limits, blockFits, jobAt, cellAt, Turned, moveAt, turn, turns, opened}
 use Rattle.theory.specs.Every.{Every, every-at, every-imp}
-use Rattle.theory.specs.Blocks.{Outcome, no-such-job, misfit, taken, outcome, moveTo-word, Sound, reached-sound}
+use Rattle.theory.specs.Blocks.{Outcome, no-such-job, misfit, taken, outcome, Sound, reached-sound}
 use Rattle.theory.specs.Sizes.{turns-fit, opened-fits}
 use Rattle.theory.specs.PassedRuns.{isStuck, not-the-word, move-not-stuck}
 
@@ -36,6 +36,5 @@ module _ (L : Limits) (M : Machine) (P : Promise (L .cells) M) (K : Checked M) (
       go u (no-such-job e) = refl
       go u (misfit e) = cc (reached-fits few-jobs passed ts, e)
       go u (taken i e h f) =
-          ap isStuck (moveTo-word L M b i (moveAt L M b i .word) (moveAt L M b i .job))
-          ∙ move-not-stuck (L .few) M (L .cells) P K (cellAt L M b) (λ k. getD starts k nowhere) (jobAt L M b) i
+          move-not-stuck (L .few) M (L .cells) P K (cellAt L M b) (λ k. getD starts k nowhere) (jobAt L M b) i
           (every-at (Passed M K (L .few)) starts i nowhere (omega (arith, s .same-number)) passed) (s .invariant i)

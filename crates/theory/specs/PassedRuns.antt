@@ -8,6 +8,7 @@ use mathlib.Core.List.{List, [], _∷_, _++_}
 use Prim.Native.Nat.{ℕ, suc, _+_, _≤_, _<_}
 use native.Mathlib.Omega.{arith}
 use borrow.Author.Tests.{lt-ltb}
+use lib.Dec.{eqb}
 use lib.ListN.{length, length-append}
 use Rattle.theory.specs.Word as W
 use Rattle.theory.specs.Promise.{Act, nothing, read, write, stop, abandon, stuck, Machine, Promise, Checked, Passed}
@@ -80,14 +81,7 @@ module _ (M : Machine) where
 
 -- ---- so its move is never stuck
 abbrev pub isStuck : W.Word → Bool
-isStuck W.idle = false
-isStuck W.back = false
-isStuck W.step = false
-isStuck W.end = false
-isStuck W.final = false
-isStuck W.wait = false
-isStuck W.badTicket = false
-isStuck W.stuck = true
+isStuck w = eqb (W.rowOf w .refusal) (W.rowOf W.stuck .refusal)
 
 pub not-the-word : (w : W.Word) → isStuck w ≡ false → w ≢ W.stuck
 not-the-word w e q = let z : _≡_ {A = Bool} false true = sym e ∙ ap isStuck q in absurd (let y : _≡_ {A = ℕ} 0 1 = cc in omega arith)

@@ -8,10 +8,11 @@ use Prim.Native.Nat.{ℕ, _≤_, _<_}
 use native.Mathlib.Omega.{arith}
 use lib.ListN.{length}
 use Rattle.theory.specs.Word as W
+use Rattle.theory.specs.Word.{finalWord}
 use Rattle.theory.specs.Promise.{Machine, Promise}
 use Rattle.theory.specs.Engine.{Block, Limits, final, moved, move, jobAt, Turned, moveTo, moveAt, turn, turns, finals, settled}
 use Rattle.theory.specs.Blocks.{Outcome, no-such-job, misfit, taken, outcome, turns-keep, Sound, turn-sound, turn-stays-final, reached, reached-sound}
-use Rattle.theory.specs.Finals.{finalWord, finals-turn, finals-turns, final-iff, lower-final}
+use Rattle.theory.specs.Finals.{finals-turn, finals-turns, final-iff, lower-final}
 use Rattle.theory.specs.SettledIsSerial.{serially, sound-settled}
 
 finalWord-other : (w : W.Word) → w ≢ W.final → finalWord w ≡ 0

@@ -19,8 +19,7 @@ use Rattle.theory.specs.Every.{Every, every-append, every-take, every-dr
 use Rattle.theory.specs.Versions.{Below, below-le, withdrawn-below, published-below}
 use Rattle.theory.specs.Marks.{mark-fits}
 use Rattle.theory.specs.ReadSizes.{both, reads-more, reads-one, CheckpointFits, checkpoint-fits, reads-cut}
-use Rattle.theory.specs.Moves.{changes}
-use Rattle.theory.specs.Blocks.{changedBlock, changed-length, Outcome, no-such-job, misfit, taken, outcome, moveTo-block, turns-keep}
+use Rattle.theory.specs.Blocks.{changedBlock, changed-length, Outcome, no-such-job, misfit, taken, outcome, turns-keep}
 
 module _ (L : Limits) (M : Machine) where
   open Machine M using (S, act, given, fits)
@@ -202,7 +201,7 @@ module _ (L : Limits) (M : Machine) where
       go : (u : Turned L M) → Outcome L M b t u → blockFits L M (u .block) ≡ true
       go u (no-such-job q) = e
       go u (misfit q) = e
-      go u (taken i q h x) = rw (moveTo-block L M b i (moveAt L M b i .word) (moveAt L M b i .job)) (at (changes (moveAt L M b i .word)))
+      go u (taken i q h x) = at (W.changes (moveAt L M b i .word))
         where
           own : jobFits L M (jobAt L M b i) ≡ true
           own = every-at (λ d. jobFits L M d ≡ true) (b .jobs) i (nobody L M) h

@@ -12,7 +12,8 @@ use mir.Syntax.{w64}
 use borrow.Author.Tests.{eq-eqb, not-true, not-false}
 use Rattle.theory.specs.Word as W
 use Rattle.theory.specs.Engine as E
-use Rattle.theory.specs.Finals.{finalWord, finals-turn}
+use Rattle.theory.specs.Word.{finalWord}
+use Rattle.theory.specs.Finals.{finals-turn}
 use Rattle.theory.specs.Sizes.{turns-fit}
 use Rattle.machine.specs.Machine.{Running}
 use Rattle.machine.specs.View.{number, number-some}

@@ -85,18 +85,8 @@ module _ (b : Block) (t : ℕ) where
     left = λ q. d .left (sym (ap leaves told) ∙ q);
   }
     where
-      said : (w : W.Word) → E.moveTo limits box (blockOf b) (t - 1) w (m .job) .word ≡ w
-      said W.idle = refl
-      said W.back = refl
-      said W.step = refl
-      said W.end = refl
-      said W.final = refl
-      said W.wait = refl
-      said W.badTicket = refl
-      said W.stuck = refl
-
       told : E.turn limits box (blockOf b) t .word ≡ m .word
-      told = ap (λ (x : E.Turned limits box). x .word) e ∙ said (m .word)
+      told = ap (λ (x : E.Turned limits box). x .word) e
 
   pub turn-taken : (r : Turned) → foreign (b .count) t ≡ false → 0 < t → t ≤ b .count → E.blockFits limits box (blockOf b) ≡ true → Did b (t - 1) (moving b (t - 1)) r → Keeps b (r .block) → Turns b t r
   unfolding E.turn
