@@ -174,11 +174,15 @@ static void play(const struct line *line)
     puts("alter");
 }
 
-/* Before the first opening stands the block of a refused one. */
+/* Before the first opening stands the block of a refused one: a table without cells is refused. */
 static void refuse_opening(void)
 {
     block = lend(&block_lent, sizeof *block);
-    garvolish_open(block, lend(&start_lent, 0), 0, lend(&paper_lent, 0), 0);
+    uint32_t answer = garvolish_open(block, lend(&start_lent, 0), 0, lend(&paper_lent, 0), 0);
+    if (garvolish_number(answer) != GARVOLISH_TABLE) {
+        fputs("tools/calls: the library opened a block on a table without cells\n", stderr);
+        exit(2);
+    }
     alter_from(block);
 }
 
