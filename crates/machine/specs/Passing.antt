@@ -4,7 +4,7 @@ use Rattle.std.proofs.Common.{arith, leb-true, ltb-false}
 use Rattle.std.proofs.Math.Decide.{ℕ_discrete}
 use Rattle.std.proofs.lemmas.Bool.{eqb-false}
 use Rattle.machine.specs.Instruction.{READ, WRITE, known, fits, leads_on, need, after}
-use Rattle.theory.specs.ReadSizes.{both}
+use Rattle.theory.proofs.ReadSizes.{both}
 use Rattle.machine.specs.Verdict.{Finding, sound, fault, and_then, scan, at, count, form_of, form_at, end_of, entries_of, entries_at, size_of, flow_of, verdict_of}
 use Rattle.machine.specs.declared.instruction.Instruction.{Instruction}
 use Rattle.machine.specs.declared.verdict.Met.TheVariants.{Height}

@@ -11,7 +11,7 @@ use borrow.Author.Tests.{eqb-true, eq-eqb, ne_eqb, lt-leb, le-leb, le-ltb}
 use Rattle.std.proofs.lemmas.List.{length-replicate}
 use Rattle.std.proofs.Math.ListN.{get_or-replicate}
 use Rattle.machine.specs.Instruction.{READ, WRITE, leads_on, jumps, after}
-use Rattle.theory.specs.ReadSizes.{both}
+use Rattle.theory.proofs.ReadSizes.{both}
 use Rattle.machine.specs.Verdict.{Finding, sound, fault, scan, at, count, form_of, form_at, end_of, meet, bring, lead, brought, entries_at, size_of, flow_of, verdict_of}
 use Rattle.machine.specs.Passing.{not_sound, too_many, sized, entered}
 use Rattle.machine.specs.declared.instruction.Instruction.{Instruction}

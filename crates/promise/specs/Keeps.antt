@@ -13,7 +13,7 @@ use Rattle.theory.specs.Run.{Run, begin, by_nothing, by_read, by_write, run_keep
 use Rattle.machine.specs.Limits.{LONGEST, ROOM, FEW, CELLS}
 use Rattle.machine.specs.Instruction.{STOP, ABANDON, READ, WRITE, JUMP, JUMPZERO, known, leads_on, jumps, need, after}
 use Rattle.machine.specs.Machine.{State, cell_of, top, next, stack_after, place_after, moved, placed, suffices, ready, asked, act, Running, current, in_job, starting, formed, sizes, machine}
-use Rattle.theory.specs.ReadSizes.{both}
+use Rattle.theory.proofs.ReadSizes.{both}
 use Rattle.machine.specs.Able.{Ready, ready_all, jump_place}
 use Rattle.machine.specs.Verdict.{sound, at, count, verdict_of, job_verdict}
 use Rattle.machine.specs.Passing.{sized}

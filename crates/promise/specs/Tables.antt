@@ -6,7 +6,7 @@ use Rattle.std.proofs.Math.Decide.{ℕ_discrete}
 use Rattle.std.proofs.Math.ListN.{get_or-map}
 use Rattle.machine.specs.Instruction.{SWAP, needs, changes, known, need, after}
 use Rattle.machine.specs.Machine.{top, puts, stays, stack_after}
-use Rattle.theory.specs.ReadSizes.{both}
+use Rattle.theory.proofs.ReadSizes.{both}
 use Rattle.machine.specs.declared.instruction.Instruction.{Instruction}
 
 -- by code: how many entries an instruction puts

@@ -8,7 +8,7 @@ use Rattle.std.proofs.Math.ListN.{get_or-append, get_or-map}
 use Rattle.theory.specs.Lists.{tab, length_tab, get_d_tab, get_d_any}
 use Rattle.theory.specs.Engine as E
 use Rattle.theory.specs.Engine.{shown, mark_job, changed, job_at, nobody}
-use Rattle.theory.specs.Marks.{same_marks_none}
+use Rattle.theory.proofs.Marks.{same_marks_none}
 use Rattle.machine.specs.Machine.{Running}
 use Rattle.rules.specs.Box.{box, limits}
 use Rattle.rules.specs.Block.{job_of, block_of}

@@ -7,7 +7,7 @@ use Rattle.std.proofs.Math.Decide.{ℕ_discrete, dec_lt}
 use borrow.Author.Tests.{leb-true, ltb-true, eqb-true}
 use Rattle.theory.specs.Engine as E
 use Rattle.theory.specs.Engine.{block_fits}
-use Rattle.theory.specs.ReadSizes.{both}
+use Rattle.theory.proofs.ReadSizes.{both}
 use Rattle.machine.specs.Limits.{LONGEST, ROOM, FEW, JOBS, CELLS}
 use Rattle.rules.specs.Box.{limits, box}
 use Rattle.rules.specs.Program.{no_program}

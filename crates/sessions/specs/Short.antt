@@ -5,7 +5,7 @@ use Rattle.std.proofs.Common.{ap, ◌∙◌, append_assoc, arith, length-append,
 use Rattle.std.proofs.lemmas.List.{length-map}
 use Rattle.theory.specs.Word as W
 use Rattle.theory.specs.Engine as E
-use Rattle.theory.specs.ReadSizes.{both}
+use Rattle.theory.proofs.ReadSizes.{both}
 use Rattle.machine.specs.Machine.{Running}
 use Rattle.machine.specs.Paper.{size, later}
 use Rattle.rules.specs.Box.{box, limits}

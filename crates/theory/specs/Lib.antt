@@ -1,4 +1,4 @@
--- The promise of a machine, the plain engine over any machine that keeps it, and what follows.
+-- The promise of a machine, the plain engine over any machine that keeps it, and the words in which the theorems of proofs/ are stated.
 pub mod Lists
 pub mod Promise
 pub mod Run
@@ -7,20 +7,5 @@ pub mod Engine
 pub mod Serial
 pub mod Scenarios
 pub mod Every
-pub mod Versions
-pub mod Runs
-pub mod Marks
-pub mod Invariant
-pub mod Moves
-pub mod Blocks
-pub mod ReadSizes
-pub mod Sizes
-pub mod Finals
-pub mod FinalCells
-pub mod SettledIsSerial
-pub mod PassedRuns
-pub mod NeverStuck
-pub mod TurnsNeeded
-pub mod FinalWithin
+pub mod Histories
 pub mod Follows
-pub mod Settling

@@ -28,7 +28,7 @@ module _ (M : Machine) where
         let o = K.ok_nothing s t h.ok e in
         record {
           ok = o.0;
-          instructions = omega (arith, h.instructions, P.after_Nothing s t e);
+          instructions = omega (arith, h.instructions, P.after_nothing s t e);
           reads = omega (arith, h.reads, o.1);
           writes = omega (arith, h.writes, o.2);
         }

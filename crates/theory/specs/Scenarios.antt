@@ -1,9 +1,9 @@
 -- Small runs on a toy machine in which each rule of the engine matters, computed: all jobs become final and the settled table is the serial
 -- run. With one of the rules changed, one of these runs settles another table, or is stuck.
-use Rattle.std.specs.Prelude.{◌≡◌, refl, true, cond, List, [], ◌∷◌, ◌++◌, map, ℕ, suc, eqb, length, get_or, drop, replicate}
+use Rattle.std.specs.Prelude.{true, cond, List, [], ◌∷◌, ◌++◌, map, ℕ, suc, eqb, length, get_or, drop, replicate}
 use Rattle.theory.specs.Promise.{Act, nothing, read, write, stop, abandon, Machine}
-use Rattle.theory.specs.Engine.{Limits, search, shown, move, job_fits, block_fits, turn, turns, opened, finals, settled, up_to}
-use Rattle.theory.specs.Serial.{solo, alone, serial}
+use Rattle.theory.specs.Engine.{Limits, turns, opened, finals, settled, up_to}
+use Rattle.theory.specs.Serial.{serial}
 
 -- ---- the toy machine
 -- nothing; a READ, whose value is held; a WRITE of a number, or of what is held; ABANDON unless 0 is held; the next one only if 0 is held
@@ -29,7 +29,7 @@ asks (get x ∷ c) h = read x
 asks (copy x ∷ c) h = write x h (on c h)
 asks (put x v ∷ c) h = write x v (on c h)
 
-abbrev toy : Machine
+abbrev pub toy : Machine
 toy = record {
   S = Toy;
   act = λ s. asks s.code s.held;
@@ -62,14 +62,14 @@ abbrev tickets : Scenario → List ℕ
 tickets s = s.first ++ (times 9 1 ++ (times 9 2 ++ times 9 3))
 
 -- f, and the settled table
-abbrev settles : Scenario → ℕ × List ℕ
+abbrev pub settles : Scenario → ℕ × List ℕ
 settles s = let b = turns small toy (opened small toy (replicate 8 0) (starts s)) (tickets s) in (finals small toy b.jobs, settled small toy b)
 
 -- all jobs, and their serial run
-abbrev serves : Scenario → ℕ × List ℕ
+abbrev pub serves : Scenario → ℕ × List ℕ
 serves s = (length s.jobs, map (serial toy (λ c. 0) (λ k. get_or (starts s) k (on [] 0)) (length s.jobs)) (up_to small toy 8))
 
-abbrev scenarios : List Scenario
+abbrev pub scenarios : List Scenario
 scenarios =
     -- job 2 reads the start table before job 1 ends: readers of an older version are marked
     run ((pass ∷ put 5 7 ∷ []) ∷ (pass ∷ get 5 ∷ copy 6 ∷ []) ∷ []) (times 4 2 ++ times 3 1)
@@ -86,7 +86,3 @@ scenarios =
     -- document 01's first expected error: ABANDON withdraws what was public before, and marks job 3
     ∷ run ((pass ∷ put 5 7 ∷ []) ∷ (put 1 3 ∷ get 5 ∷ quit ∷ []) ∷ (pass ∷ get 1 ∷ copy 6 ∷ []) ∷ []) (times 4 2 ++ times 4 3 ++ times 3 1)
     ∷ []
-
-pub rules_matter : map settles scenarios ≡ map serves scenarios
-unfolding search shown move job_fits block_fits turn turns settled solo alone serial
-rules_matter = refl

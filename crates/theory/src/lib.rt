@@ -1,1 +1,3 @@
+#![tactic(auto)]
+
 // This crate has no code: its definitions and theorems stand in specs/.

@@ -9,8 +9,8 @@ use lib.Dec.{eqb}
 use lib.ListN.{length}
 use borrow.Author.Tests.{eq-eqb, ne_eqb}
 use Rattle.theory.specs.Engine as E
-use Rattle.theory.specs.Finals.{finals_turns}
-use Rattle.theory.specs.Sizes.{turns_fit}
+use Rattle.theory.proofs.Finals.{finals_turns}
+use Rattle.theory.proofs.Sizes.{turns_fit}
 use Rattle.machine.specs.Limits.{CELLS}
 use Rattle.machine.specs.Paper.{Answer, jobs, refused, refusal, paper_answer}
 use Rattle.machine.specs.View.{number, number_some}

@@ -9,7 +9,7 @@ use lib.ListN.{length, get_or}
 use Rattle.theory.specs.Engine as E
 use Rattle.theory.specs.Engine.{step_to, end_with, published}
 use Rattle.theory.specs.Every.{every_at}
-use Rattle.theory.specs.Versions.{Below, published_below}
+use Rattle.theory.proofs.Versions.{Below, published_below}
 use Rattle.machine.specs.Limits.{ROOM, FEW}
 use Rattle.machine.specs.Machine.{State as Plain, Running, given, in_job, current}
 use Rattle.machine.specs.View.{state_of, act_of}

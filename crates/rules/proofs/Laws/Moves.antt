@@ -15,7 +15,7 @@ use Rattle.theory.specs.Lists.{tab, length_tab, get_d_tab, tab_same, take_tab, d
 use Rattle.theory.specs.Engine as E
 use Rattle.theory.specs.Engine.{step_to, write_to, list_to, end_with, settle, go_back, earlier, first_struck, is_struck, next, withdrawn}
 use Rattle.theory.specs.Every.{Every, every_at}
-use Rattle.theory.specs.Versions.{Below, shown_append, withdrawn_below}
+use Rattle.theory.proofs.Versions.{Below, shown_append, withdrawn_below}
 use Rattle.machine.specs.Machine.{Running}
 use Rattle.machine.specs.declared.counts.Ticket.{Ticket}
 use Rattle.machine.specs.declared.instruction.Instruction.{Instruction}

@@ -10,7 +10,7 @@ use lib.Dec.{eqb, leb, ltb}
 use lib.ListN.{length, get_or, set, replicate, length-map, get_or-map, get_or-eq_default}
 use borrow.Author.Tests.{leb-true, ltb-true, lt-ltb, le-ltb, eq-eqb, ne_eqb}
 use Rattle.theory.specs.Lists.{firsts, length_firsts, get_d_firsts, tab, get_d_tab, tab_same}
-use Rattle.theory.specs.ReadSizes.{both}
+use Rattle.theory.proofs.ReadSizes.{both}
 use Rattle.machine.specs.Limits.{LONGEST, ROOM, JOBS}
 use Rattle.machine.specs.Instruction.{DUP, SWAP, JUMP}
 use Rattle.machine.specs.Machine.{stopping, starting, formed, sizes}

@@ -12,7 +12,7 @@ use Rattle.theory.specs.Lists.{tab, length_tab, get_d_tab, drop_tab}
 use Rattle.theory.specs.Word as W
 use Rattle.theory.specs.Engine as E
 use Rattle.theory.specs.Engine.{or_else, last_value, listed_value, step_to, write_to, list_to}
-use Rattle.theory.specs.Versions.{search_same}
+use Rattle.theory.proofs.Versions.{search_same}
 use Rattle.machine.specs.Limits.{ROOM, FEW}
 use Rattle.machine.specs.Machine.{State as Plain, Running, given}
 use Rattle.machine.specs.View.{state_of}

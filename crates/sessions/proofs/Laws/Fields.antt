@@ -13,7 +13,7 @@ use lib.Seq.{get_or-drop, drop-drop, length-take-le}
 use mir.Val.{Fits}
 use mir.Syntax.{w64}
 use borrow.Author.Tests.{lt-ltb, le-ltb, le-leb, lt-leb, eq-eqb, ne_eqb, leb-true, eqb-true, not-true, not-false}
-use Rattle.theory.specs.ReadSizes.{both}
+use Rattle.theory.proofs.ReadSizes.{both}
 use Rattle.machine.specs.Paper.{little, tag, size, later}
 use Rattle.sessions.specs.Limits.{BYTES, TURNS}
 use Rattle.sessions.specs.Fields.{Session, session, malformed, is_field, is_turns, paper_size, paper_length, after_cells, cell_in, value_in, is_next_cell, cell_fields, from_cell, zeros, session_of, Starts, Divides}

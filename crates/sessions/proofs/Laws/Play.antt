@@ -13,8 +13,8 @@ use borrow.Author.Tests.{eq-eqb, not-true, not-false}
 use Rattle.theory.specs.Word as W
 use Rattle.theory.specs.Engine as E
 use Rattle.theory.specs.Word.{final_word}
-use Rattle.theory.specs.Finals.{finals_turn}
-use Rattle.theory.specs.Sizes.{turns_fit}
+use Rattle.theory.proofs.Finals.{finals_turn}
+use Rattle.theory.proofs.Sizes.{turns_fit}
 use Rattle.machine.specs.Machine.{Running}
 use Rattle.machine.specs.View.{number, number_some}
 use Rattle.machine.specs.declared.verdict.Fault.{Fault}

@@ -9,8 +9,8 @@ use lib.ListN.{length, get_or, drop, set}
 use lib.Seq.{drop-cons}
 use borrow.Author.Tests.{ne_eqb, eq-eqb}
 use Rattle.theory.specs.Engine as E
-use Rattle.theory.specs.ReadSizes.{both}
-use Rattle.theory.specs.Sizes.{turn_fits}
+use Rattle.theory.proofs.ReadSizes.{both}
+use Rattle.theory.proofs.Sizes.{turn_fits}
 use Rattle.machine.specs.Machine.{Running}
 use Rattle.rules.specs.Box.{box, box_promise, limits}
 use Rattle.rules.specs.Block.{block_of}

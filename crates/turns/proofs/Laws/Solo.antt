@@ -43,7 +43,7 @@ module _ (M : Machine) (T : ℕ → ℕ) where
     solo_same (suc m) (suc n) j s l k = go (act s) refl (λ i t d. solo_same m n i t (omega arith) (omega arith))
       where
         go : (a : Act S) → act s ≡ a → ((i : List E.Entry) (t : S) → left t < left s → solo M m T i t ≡ solo M n T i t) → solo M (suc m) T j s ≡ solo M (suc n) T j s
-        go (nothing t) e ih = solo_nothing m j s t e ∙ ih j t (P.after_Nothing s t e) ∙ sym (solo_nothing n j s t e)
+        go (nothing t) e ih = solo_nothing m j s t e ∙ ih j t (P.after_nothing s t e) ∙ sym (solo_nothing n j s t e)
         go (read c) e ih = solo_read m j s c e ∙ ih j _ (P.after_read s c _ e) ∙ sym (solo_read n j s c e)
         go (write c v t) e ih = solo_write m j s t c v e ∙ ih _ t (P.after_write s t c v e) ∙ sym (solo_write n j s t c v e)
         go stop e ih = solo_stop m j s e ∙ sym (solo_stop n j s e)
@@ -52,7 +52,7 @@ module _ (M : Machine) (T : ℕ → ℕ) where
 
     module _ (j : List E.Entry) (s : S) (R : ℕ → ℕ) (rest : solo M (suc (left s)) T j s ≡ R) where
       pub rest_nothing : (t : S) → act s ≡ nothing t → solo M (suc (left t)) T j t ≡ R
-      rest_nothing t e = solo_same (suc (left t)) (left s) j t (omega arith) (P.after_Nothing s t e) ∙ sym (solo_nothing (left s) j s t e) ∙ rest
+      rest_nothing t e = solo_same (suc (left t)) (left s) j t (omega arith) (P.after_nothing s t e) ∙ sym (solo_nothing (left s) j s t e) ∙ rest
 
       pub rest_read : (t : S) (c : ℕ) → act s ≡ read c → t ≡ given s (over j T c) → solo M (suc (left t)) T j t ≡ R
       rest_read t c e q =

@@ -1,0 +1,19 @@
+-- What follows of the plain engine, over any machine that keeps the promise; the theorems that docs/READING.md names are among them.
+pub mod Scenarios
+pub mod Versions
+pub mod Runs
+pub mod Marks
+pub mod Invariant
+pub mod Moves
+pub mod Blocks
+pub mod ReadSizes
+pub mod Sizes
+pub mod Finals
+pub mod FinalCells
+pub mod SettledIsSerial
+pub mod PassedRuns
+pub mod NeverStuck
+pub mod TurnsNeeded
+pub mod FinalWithin
+pub mod Follows
+pub mod Settling
