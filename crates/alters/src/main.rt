@@ -1,5 +1,7 @@
 // Shows by runs that 20 is answered exactly where document 01 says, on blocks in work that a caller has altered: a line
 // an alteration. The lines that are expected were written by hand from document 01.
+#![tactic(auto)]
+
 mod altered;
 mod codes;
 mod jobs;

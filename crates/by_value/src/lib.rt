@@ -1,4 +1,6 @@
 // The by-value turn in a loop, for the benchmark: every turn hands the whole block over and gets it back.
+#![tactic(auto)]
+
 ghost use Rattle.by_value.specs.Hands.{HandsOver};
 
 use garvolish::number::number_of_opening;

@@ -14,7 +14,7 @@ use turns::many::{Taking, take_turns};
 use turns::open::{Opening, open};
 use turns::settled::settled_table;
 
-#[derive(Drop)]
+#[derive(Clone, Copy)]
 pub enum Finishing {
     Settled,
     WrongTable,
@@ -23,7 +23,7 @@ pub enum Finishing {
 }
 
 // With the number of final jobs; a refusal has none, and leaves the bytes and the table as they were.
-#[derive(Drop)]
+#[derive(Clone, Copy)]
 pub struct Finished {
     pub answer: Finishing,
     pub f: u8,

@@ -1,4 +1,6 @@
 // The engine for callers in C: each function works on the caller's own block or table, and answers a number.
+#![tactic(auto)]
+
 pub mod number;
 
 ghost use Rattle.std.specs.Prelude.{◌≡◌};

@@ -18,7 +18,7 @@ use turns::settled::{Settling, settled_table};
 use words::word::Word;
 
 // An answer, and the block after it.
-#[derive(Drop)]
+#[derive(Clone, Copy)]
 pub(crate) struct Numbered {
     pub block: Block,
     pub number: u32,

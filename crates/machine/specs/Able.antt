@@ -1,6 +1,6 @@
 -- What a ready instruction finds, as facts for the code that does it.
 use Rattle.theory.proofs.ReadSizes.{both}
-use Rattle.std.specs.Prelude.{◌≡◌, ℕ, suc, ◌<◌, ◌≤◌, Bool, true, false, not, ◌&&◌, ◌||◌, length, ◌==◌, nat_le, nat_lt, slice_index_or, refl}
+use Rattle.std.specs.Prelude.{◌≡◌, ℕ, suc, ◌<◌, ◌≤◌, Bool, true, false, not, ◌||◌, length, ◌==◌, nat_le, nat_lt, slice_index_or, refl}
 use Rattle.std.proofs.Common.{arith}
 use borrow.Author.Tests.{ltb-true, leb-true, eqb-true}
 use Rattle.machine.specs.Instruction.{columns, known, fits, leads_on, jumps, need, after, JUMP, JUMPZERO}

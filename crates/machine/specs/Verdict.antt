@@ -1,5 +1,5 @@
 -- Document 01, "The checker's verdict": the verdict of one job, over the limits as parameters. Every pass is a function of the place.
-use Rattle.std.specs.Prelude.{ℕ, zero, suc, ◌+◌, ◌-◌, Bool, true, false, cond, ◌&&◌, ◌||◌, List, [], ◌∷◌, length, replicate, ◌==◌, nat_le, nat_lt, slice_index_or, slice_set}
+use Rattle.std.specs.Prelude.{ℕ, zero, suc, ◌+◌, ◌-◌, Bool, true, false, cond, ◌&&◌, ◌||◌, List, length, replicate, ◌==◌, nat_le, nat_lt, slice_index_or, slice_set}
 use Rattle.machine.specs.Instruction.{READ, WRITE, known, fits, leads_on, jumps, need, after}
 use Rattle.machine.specs.Machine.{stopping}
 use Rattle.machine.specs.Limits.{LONGEST, ROOM, FEW}

@@ -5,7 +5,7 @@ ghost use Rattle.machine.specs.Instruction.{needs, changes, columns, known, fits
 use crate::counts::Place;
 
 #[repr(C)]
-#[derive(Drop)]
+#[derive(Clone, Copy)]
 pub struct Instruction {
     pub code: u8,
     pub operand: u64,

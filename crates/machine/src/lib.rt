@@ -1,4 +1,6 @@
 // The instruction machine and the checker of a block paper.
+#![tactic(auto)]
+
 pub mod bytes;
 pub mod counts;
 pub mod instruction;

@@ -11,7 +11,7 @@ use crate::job::Job;
 use crate::verdict::{Check, Fault, check_job};
 
 // Fields count from 1.
-#[derive(Drop)]
+#[derive(Clone, Copy)]
 pub struct Field(pub u8);
 
 impl Field {
@@ -25,14 +25,14 @@ impl Field {
     pub const LONGEST: usize = Instruction::BYTES * (Job::LONGEST as usize);
 }
 
-#[derive(Drop)]
+#[derive(Clone, Copy)]
 pub enum Verdict {
     Accepted,
     Refused(Fault, Field, Place),
 }
 
 // A refused paper has no jobs.
-#[derive(Drop)]
+#[derive(Clone, Copy)]
 pub struct Checked {
     pub verdict: Verdict,
     pub count: u8,
@@ -129,7 +129,7 @@ fn empty_job() -> Job {
 }
 
 // A field that was looked at; its job and the next field's start count where it passes.
-#[derive(Drop)]
+#[derive(Clone, Copy)]
 struct Taken {
     check: Check,
     job: Job,

@@ -9,7 +9,7 @@ use crate::counts::{Cell, Place};
 use crate::instruction::Instruction;
 use crate::job::{Job, Stack, State};
 
-#[derive(Drop)]
+#[derive(Clone, Copy)]
 pub enum Act {
     Nothing,
     Read(Cell),
@@ -20,7 +20,7 @@ pub enum Act {
 }
 
 // The state is the one after the instruction, before a READ is given its value.
-#[derive(Drop)]
+#[derive(Clone, Copy)]
 pub struct Stepped {
     pub act: Act,
     pub state: State,

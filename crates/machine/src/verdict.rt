@@ -11,7 +11,7 @@ use crate::instruction::Instruction;
 use crate::job::Job;
 
 // The refusals 1 to 11, in document 01's order.
-#[derive(Drop)]
+#[derive(Clone, Copy)]
 pub enum Fault {
     Head,
     Tag,
@@ -47,14 +47,14 @@ impl Fault {
     }
 }
 
-#[derive(Drop)]
+#[derive(Clone, Copy)]
 pub enum Check {
     Passes,
     Refused(Fault, Place),
 }
 
 // What earlier places bring to a place: nobody leads there, one height, or two, of which the first is kept.
-#[derive(Drop)]
+#[derive(Clone, Copy)]
 pub enum Met {
     Nobody,
     Height(u8),

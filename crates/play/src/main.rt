@@ -1,4 +1,6 @@
 // Plays one session: its bytes from standard input, its text to standard output.
+#![tactic(auto)]
+
 ghost use Rattle.std.specs.Prelude.{◌≡◌, length};
 
 use libc::{STDIN_FILENO, STDOUT_FILENO};

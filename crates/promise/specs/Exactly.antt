@@ -1,6 +1,6 @@
 -- The checker passes exactly the jobs that document 01 describes: there are heights that suit every instruction, and each later place is led to
 -- by an earlier one. The heights that the checker brings are those, since each place is brought its height by some earlier place and no other.
-use Rattle.std.specs.Prelude.{◌≡◌, ◌⊎◌, Bool, ◌&&◌, ◌||◌, List, [], ◌∷◌, eqb, leb, length, get_or, set, replicate}
+use Rattle.std.specs.Prelude.{◌≡◌, ◌⊎◌, Bool, ◌&&◌, ◌||◌, List, eqb, leb, length, get_or, set, replicate}
 use Rattle.std.proofs.Math.Path.{refl}
 use Rattle.std.proofs.Common.{sym, ap, ◌∙◌, arith, get_or-set_same, get_or-set_other}
 use Rattle.std.proofs.Math.Logic.{inl, inr}

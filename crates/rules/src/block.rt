@@ -6,7 +6,7 @@ use words::word::Word;
 // The instructions of a job, in bytes, so that the test of sizes takes many at a time. The operand of a PUSH, which may be any
 // number, stands in `pushed`, every other in `arguments`.
 #[repr(C)]
-#[derive(Drop)]
+#[derive(Clone, Copy)]
 pub struct Program {
     pub codes: [u8; Job::LONGEST as usize],
     pub arguments: [u8; Job::LONGEST as usize],
@@ -16,7 +16,7 @@ pub struct Program {
 
 // A write of a value to a cell.
 #[repr(C)]
-#[derive(Drop)]
+#[derive(Clone, Copy)]
 pub struct Entry {
     pub cell: Cell,
     pub value: u64,
@@ -24,7 +24,7 @@ pub struct Entry {
 
 // The writes of a job, in order.
 #[repr(C)]
-#[derive(Drop)]
+#[derive(Clone, Copy)]
 pub struct Journal {
     pub entries: [Entry; Job::FEW as usize],
     pub size: u8,
@@ -32,7 +32,7 @@ pub struct Journal {
 
 // The public versions of a job: each is the number of its journal entry.
 #[repr(C)]
-#[derive(Drop)]
+#[derive(Clone, Copy)]
 pub struct Versions {
     pub numbers: [u8; Job::FEW as usize],
     pub size: u8,
@@ -44,7 +44,7 @@ impl Versions {
 }
 
 #[repr(C)]
-#[derive(Drop)]
+#[derive(Clone, Copy)]
 pub struct Read {
     pub cell: Cell,
     pub source: Ticket,
@@ -53,7 +53,7 @@ pub struct Read {
 
 // The listed reads of a job, and the earliest marked one.
 #[repr(C)]
-#[derive(Drop)]
+#[derive(Clone, Copy)]
 pub struct Reads {
     pub reads: [Read; Job::FEW as usize],
     pub size: u8,
@@ -67,7 +67,7 @@ impl Reads {
 
 // The job as it was before a listed read.
 #[repr(C)]
-#[derive(Drop)]
+#[derive(Clone, Copy)]
 pub struct Checkpoint {
     pub state: State,
     pub writes: u8,
@@ -77,7 +77,7 @@ pub struct Checkpoint {
 // The job at index k has ticket k + 1. Its checkpoints stand from SLOTS * k on, one for each listed read. From FINAL on a status is
 // final: a turn stores no other, and an altered one is read and not refused.
 #[repr(C)]
-#[derive(Drop)]
+#[derive(Clone, Copy)]
 pub struct Block {
     pub start: [u64; Cell::COUNT as usize],
     pub count: u8,
@@ -103,7 +103,7 @@ impl Block {
 }
 
 // A block after a turn, and the turn's word. The block stands first, so that it is handed over in one piece.
-#[derive(Drop)]
+#[derive(Clone, Copy)]
 pub struct Turned {
     pub block: Block,
     pub word: Word,

@@ -8,7 +8,7 @@ use machine::counts::Cell;
 use machine::job::Job;
 
 // The number of a journal entry, where there is one.
-#[derive(Drop)]
+#[derive(Clone, Copy)]
 pub enum Found {
     At(u8),
     Nowhere,

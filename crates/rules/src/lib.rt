@@ -1,4 +1,6 @@
 // What the engine is made of: the parts of a block in work, and the rules of a turn on the parts of one job.
+#![tactic(auto)]
+
 pub mod block;
 pub mod journal;
 pub mod marks;

@@ -12,7 +12,7 @@ use machine::counts::Ticket;
 use machine::job::Job;
 
 // A job's journal and public versions: from where it shows each cell.
-#[derive(Drop)]
+#[derive(Clone, Copy)]
 pub struct Shows {
     pub journal: Journal,
     pub versions: Versions,

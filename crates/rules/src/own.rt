@@ -16,7 +16,7 @@ use machine::step::{Act, Stepped};
 use words::word::Word;
 
 // A job's own parts; the slot holds the checkpoint of its next listed read.
-#[derive(Drop)]
+#[derive(Clone, Copy)]
 pub struct Own {
     pub state: State,
     pub status: u8,
@@ -27,7 +27,7 @@ pub struct Own {
 }
 
 // What a job sees of all.
-#[derive(Drop)]
+#[derive(Clone, Copy)]
 pub struct Around {
     pub status: [u8; Job::MOST as usize],
     pub journals: [Journal; Job::MOST as usize],
@@ -35,7 +35,7 @@ pub struct Around {
 }
 
 // What a turn makes of a job's parts, and whether it may change what is public, so that the higher jobs are to be marked.
-#[derive(Drop)]
+#[derive(Clone, Copy)]
 pub struct Move {
     pub own: Own,
     pub word: Word,

@@ -137,7 +137,7 @@ fn versions_fit(v: Versions, entries: u8) -> bool
 }
 
 // The counts of a checkpoint: all but its stack's entries.
-#[derive(Drop)]
+#[derive(Clone, Copy)]
 pub struct Kept {
     pub place: Place,
     pub height: u8,

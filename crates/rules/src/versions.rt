@@ -9,7 +9,7 @@ use machine::counts::{Cell, Ticket};
 use machine::job::Job;
 
 // A version that a reader finds: its source ticket, 0 for the start table, and its value.
-#[derive(Drop)]
+#[derive(Clone, Copy)]
 pub struct Version {
     pub source: Ticket,
     pub value: u64,
@@ -126,7 +126,7 @@ pub fn withdraw(v: Versions, n: u8) -> Versions
 }
 
 // The value of a cell's public version, where there is one.
-#[derive(Drop)]
+#[derive(Clone, Copy)]
 pub enum Shown {
     Value(u64),
     Nothing,

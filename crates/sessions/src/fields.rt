@@ -8,7 +8,7 @@ use machine::counts::Cell;
 use machine::paper::Field;
 
 // The start table, and where the cells end; or a cell is in breach.
-#[derive(Drop)]
+#[derive(Clone, Copy)]
 struct Start {
     pub sound: bool,
     pub table: [u64; Cell::COUNT as usize],
@@ -16,7 +16,7 @@ struct Start {
 }
 
 // The start table, and where the paper and the field of tickets begin; or the session is malformed.
-#[derive(Drop)]
+#[derive(Clone, Copy)]
 pub(crate) struct Parts {
     pub sound: bool,
     pub table: [u64; Cell::COUNT as usize],

@@ -16,14 +16,14 @@ use rules::own::{Move, around_of, cell_read, own_of, shows_of, slot_of, take_own
 use rules::program::program_step;
 use words::word::Word;
 
-#[derive(Drop)]
+#[derive(Clone, Copy)]
 pub enum Taking {
     Taken,
     WrongLength,
 }
 
 // A refusal leaves the bytes and the block as they were.
-#[derive(Drop)]
+#[derive(Clone, Copy)]
 pub struct Taken {
     pub block: Block,
     pub answer: Taking,

@@ -15,14 +15,14 @@ use rules::journal::no_entries;
 use rules::program::{programs_of, stops};
 use rules::versions::no_versions;
 
-#[derive(Drop)]
+#[derive(Clone, Copy)]
 pub enum Opening {
     Accepted,
     WrongTable,
     Refused(Fault, Field, Place),
 }
 
-#[derive(Drop)]
+#[derive(Clone, Copy)]
 pub struct Opened {
     pub block: Block,
     pub answer: Opening,

@@ -17,7 +17,7 @@ use rules::block::{Entry, Journal};
 use rules::journal::{Found, entry_at, last_entry, no_entries, with_entry};
 
 // A job alone: its state, its journal, and whether it has ended. The journal of a job that has ended holds the writes that it applies.
-#[derive(Drop)]
+#[derive(Clone, Copy)]
 struct Alone {
     ended: bool,
     state: State,

@@ -13,7 +13,7 @@ use rules::block::{Block, Journal, Versions};
 use rules::journal::entry_at;
 
 // Whether the table was written, and else 12 or 20.
-#[derive(Drop)]
+#[derive(Clone, Copy)]
 pub enum Settling {
     Written,
     WrongTable,
@@ -21,7 +21,7 @@ pub enum Settling {
 }
 
 // With the number of final jobs, 0 for a refusal.
-#[derive(Drop)]
+#[derive(Clone, Copy)]
 pub struct Settled {
     pub answer: Settling,
     pub f: u8,

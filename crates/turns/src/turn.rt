@@ -19,7 +19,7 @@ use words::word::Word;
 
 // What a turn changes of a block: the parts of the job at an index, the checkpoint in a slot, and the lists of reads, among
 // which it may mark.
-#[derive(Drop)]
+#[derive(Clone, Copy)]
 pub struct Change {
     pub reads: [Reads; Job::MOST as usize],
     pub state: State,

@@ -2,6 +2,8 @@
 // number of jobs, or `refused`, number, field and place. A word of two hexadecimal digits is a byte; the word `.` ends a
 // paper; a number sign starts a comment to the end of its line. The first word that is none of these, or a last paper
 // that no dot ends, is told on standard error with its line, and nothing is written after that.
+#![tactic(auto)]
+
 ghost use Rattle.std.specs.Prelude.{◌≤◌};
 
 use libc::{STDERR_FILENO, STDIN_FILENO, STDOUT_FILENO};
@@ -9,7 +11,7 @@ use machine::paper::{Verdict, check_paper};
 use std::num::wrapping_add_u64;
 
 // Where the text is: between words, in a word or just behind it, in a comment, or past a word that is wrong.
-#[derive(Drop)]
+#[derive(Clone, Copy)]
 enum At {
     Gap,
     Word,
@@ -19,7 +21,7 @@ enum At {
 
 // What was read: so many bytes of a paper, a digit that waits for its second (or none), where the text is, its line,
 // and the line of the last byte.
-#[derive(Drop)]
+#[derive(Clone, Copy)]
 struct Reader {
     size: usize,
     digit: u8,

@@ -3,7 +3,7 @@ ghost use Rattle.std.specs.Prelude.{◌≡◌};
 ghost use Rattle.theory.specs.Word.{byte_of, refusal};
 ghost use Rattle.words.specs.Words.{word_of};
 
-#[derive(Drop)]
+#[derive(Clone, Copy)]
 pub enum Word {
     Idle,
     Back,

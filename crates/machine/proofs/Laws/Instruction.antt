@@ -1,5 +1,5 @@
 -- The tables and tests of an instruction: each branch of the code picks the row, or the test, that the definition picks.
-use Rattle.std.proofs.Common.{◌≡◌, ℕ, ◌+◌, ◌-◌, ◌<◌, ◌≤◌, Bool, true, false, ◌&&◌, ◌||◌, eqb, ltb, leb, [], ◌∷◌, get_or, sym, refl, arith, le-ltb, lt-ltb, ne_eqb, le-leb, leb-false, leb-true}
+use Rattle.std.proofs.Common.{◌≡◌, ℕ, ◌+◌, ◌-◌, ◌<◌, ◌≤◌, Bool, true, false, eqb, ltb, leb, get_or, sym, refl, arith, le-ltb, lt-ltb, ne_eqb, le-leb, leb-false, leb-true}
 use lib.ListN.{get_or-eq_default}
 use borrow.Author.Tests.{lt-leb}
 use Rattle.machine.specs.Instruction.{needs, changes, columns, in_column, fits, leads_on, jumps, need, after}

@@ -1,6 +1,6 @@
 -- The paper's verdict: a field's parts stand at fixed distances from its start, and the loop's invariant says that
 -- the jobs so far, joined to the answer for the fields from here on, are the answer to the whole paper.
-use Rattle.std.proofs.Common.{◌≡◌, ℕ, zero, suc, ◌+◌, ◌-◌, ◌*◌, ◌/◌, ◌%◌, ◌^◌, ◌<◌, ◌≤◌, cond, ◌||◌, leb, List, [], ◌∷◌, ◌++◌, map, length, get_or, take, drop, set, sym, refl, ap, ◌∙◌, append_assoc, append-nil, add-zero, add-one, arith, length-drop, drop_of_length-le, length-take-le, get_or-drop, drop-drop, take-suc-set, w8, w64, Fits, le-ltb, lt-ltb, eq-eqb, ne_eqb, le-leb}
+use Rattle.std.proofs.Common.{◌≡◌, ℕ, zero, suc, ◌+◌, ◌-◌, ◌*◌, ◌/◌, ◌%◌, ◌^◌, ◌<◌, ◌≤◌, cond, leb, List, [], ◌∷◌, ◌++◌, map, length, get_or, take, drop, set, sym, refl, ap, ◌∙◌, append_assoc, append-nil, add-zero, add-one, arith, length-drop, drop_of_length-le, length-take-le, get_or-drop, drop-drop, take-suc-set, w8, w64, Fits, le-ltb, lt-ltb, eq-eqb, ne_eqb, le-leb}
 use mathlib.Core.List.{map-append}
 use native.Mathlib.Nat.{sub-zero}
 use lib.ListN.{length-map}

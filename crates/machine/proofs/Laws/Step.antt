@@ -1,5 +1,5 @@
 -- One instruction: by its code, what a ready instruction finds, and the row of the definition that each branch computes.
-use Rattle.std.proofs.Common.{◌≡◌, ℕ, ◌+◌, ◌-◌, ◌<◌, ◌≤◌, Bool, true, false, cond, not, ◌&&◌, ◌||◌, eqb, ltb, leb, ◌⊎◌, List, [], ◌∷◌, ◌++◌, length, get_or, drop, set, sym, refl, ap, ◌∙◌, inl, inr, add-one, arith, w8, Fits, le-ltb, lt-ltb, ne_eqb, le-leb}
+use Rattle.std.proofs.Common.{◌≡◌, ℕ, ◌+◌, ◌-◌, ◌<◌, ◌≤◌, Bool, true, false, cond, not, eqb, ltb, leb, ◌⊎◌, List, ◌∷◌, length, get_or, drop, set, sym, refl, ap, ◌∙◌, inl, inr, add-one, arith, w8, Fits, le-ltb, lt-ltb, ne_eqb, le-leb}
 use native.Mathlib.Decide.{ℕ_discrete}
 use borrow.Author.Tests.{lt-leb, not-true, not-false}
 use Rattle.theory.specs.Promise.{nothing, read, write, stop, abandon}

@@ -1,6 +1,6 @@
 -- The job's verdict: each branch of a check is a branch of its definition, and a loop's invariant says that
 -- what is found from here on is what is found from the start.
-use Rattle.std.proofs.Common.{◌≡◌, ℕ, zero, suc, ◌+◌, ◌-◌, ◌<◌, ◌≤◌, Bool, true, false, cond, not, ◌&&◌, ◌||◌, eqb, leb, List, [], ◌∷◌, length, get_or, set, replicate, sym, refl, ap, ◌∙◌, add-one, arith, w8, Fits, le-ltb, lt-ltb, eq-eqb, ne_eqb, le-leb}
+use Rattle.std.proofs.Common.{◌≡◌, ℕ, zero, suc, ◌+◌, ◌-◌, ◌<◌, ◌≤◌, Bool, true, false, cond, not, eqb, leb, List, length, get_or, set, replicate, sym, refl, ap, ◌∙◌, add-one, arith, w8, Fits, le-ltb, lt-ltb, eq-eqb, ne_eqb, le-leb}
 use native.Mathlib.Nat.{sub-zero}
 use borrow.Author.Tests.{lt-leb, not-true, not-false}
 use Rattle.theory.specs.Lists.{length_firsts, get_d_firsts}

@@ -1,0 +1,2 @@
+-- Up to 8 bytes the number is gathered;
+-- past that the answer is 0.

@@ -1,0 +1,13 @@
+-- The jobs so far, joined to the answer for the fields from here on, are the answer to the whole paper;
+-- a fault ends it, and each field brings the end of the paper nearer.
+use Rattle.std.proofs.Common.{◌≡◌, ◌+◌, ◌-◌, ◌≤◌, map, length, take, drop}
+use Rattle.machine.specs.Paper.{fields, paper_answer}
+use Rattle.machine.specs.View.{code_of}
+use Rattle.machine.proofs.Laws.Paper.{joined}
+use Rattle.machine.proofs.paper.check_paper.Given as goal
+
+abbrev pub invariant-loop-at : goal.invariant-loop-at
+invariant-loop-at l = (l.count ≤ 16) × (l.at ≤ length l.paper) × (length l.jobs ≡ 16) × (joined (map code_of (take l.count l.jobs)) (fields (16 - l.count) (l.count + 1) (drop l.at l.paper)) ≡ paper_answer l.paper)
+
+abbrev pub decreases-loop-at : goal.decreases-loop-at
+decreases-loop-at l = length l.paper - l.at
