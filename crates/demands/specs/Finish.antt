@@ -2,7 +2,7 @@
 -- jobs, and f is the number of turns whose word was final.
 use Rattle.std.specs.Prelude.{◌≡◌, not, cond, ◌||◌, List, [], map, ℕ, eqb, length, get_or}
 use Rattle.theory.specs.Engine as E
-use Rattle.theory.proofs.Finals.{final_turns}
+use Rattle.theory.specs.Histories.{final_turns}
 use Rattle.theory.specs.Serial.{serial}
 use Rattle.machine.specs.Limits.{CELLS}
 use Rattle.machine.specs.Machine.{Running, starting}

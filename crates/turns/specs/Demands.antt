@@ -14,12 +14,12 @@ use Rattle.theory.specs.Promise.{Passed}
 use Rattle.theory.specs.Engine as E
 use Rattle.theory.specs.Every.{Every}
 use Rattle.theory.specs.Serial.{serial}
-use Rattle.theory.proofs.Finals.{final_turns}
-use Rattle.theory.proofs.TurnsNeeded.{occurs}
+use Rattle.theory.specs.Histories.{final_turns}
+use Rattle.theory.specs.Histories.{occurs}
 use Rattle.theory.proofs.SettledIsSerial as S
 use Rattle.theory.proofs.NeverStuck as N
 use Rattle.theory.proofs.FinalWithin as F
-use Rattle.theory.specs.Follows as O
+use Rattle.theory.proofs.Follows as O
 use Rattle.theory.specs.Follows.{run_on}
 use Rattle.machine.specs.Limits.{FEW, JOBS, CELLS}
 use Rattle.machine.specs.Machine.{Running, starting}

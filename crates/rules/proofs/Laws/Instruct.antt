@@ -1,7 +1,6 @@
 -- One instruction of a running job, or its end: each act of the machine is a clause of the plain rules, once the structs are read as what they stand for.
 use mathlib.Core.Path.{◌≡◌, ap, sym, subst, ◌∙◌}
 use mathlib.Core.Bool.{Bool, true, false, cond}
-use mathlib.Core.Option.{none}
 use mathlib.Core.List.{List, [], ◌∷◌}
 use Prim.Native.Nat.{ℕ, suc, ◌-◌, ◌≤◌, ◌<◌}
 use native.Mathlib.Omega.{arith}
@@ -22,8 +21,7 @@ use Rattle.rules.specs.View.{journal_of, length_journal, versions_of, no_journal
 use Rattle.rules.specs.Block.{code_at, no_state, running_of, job_of}
 use Rattle.rules.specs.Steps.{StepsIn}
 use Rattle.rules.specs.Becomes.{Becomes}
-use Rattle.rules.specs.Turn.{leaves, jobs, cells, reading, writing, stepping, Did, Reading, Whole}
-use Rattle.rules.specs.declared.block.Entry.{Entry}
+use Rattle.rules.specs.Turn.{jobs, cells, reading, writing, stepping, Did, Reading, Whole}
 use Rattle.rules.specs.declared.block.Journal.{Journal}
 use Rattle.rules.specs.declared.block.Versions.{Versions}
 use Rattle.rules.specs.declared.block.Block.{Block}

@@ -19,7 +19,6 @@ use Rattle.rules.specs.Block.{code_at, no_checkpoint, checkpoint_of, reads_of, s
 use Rattle.rules.specs.Becomes.{Becomes}
 use Rattle.rules.specs.Moves.{Held}
 use Rattle.rules.specs.Turn.{word_of, leaves, final_below, jobs, cells, returning, stepping, moving, Did, Marked, Whole}
-use Rattle.rules.specs.declared.block.Read.{Read}
 use Rattle.rules.specs.declared.block.Block.{Block}
 use Rattle.words.specs.declared.word.Word.TheVariants.{Idle, Back, Final, Wait}
 use Rattle.rules.specs.declared.block.Turned.{Turned}

@@ -15,7 +15,7 @@ use Rattle.theory.specs.Engine as E
 use Rattle.theory.specs.Engine.{last_at}
 use Rattle.theory.specs.Serial.{over, solo, alone}
 use Rattle.machine.specs.Limits.{ROOM, CELLS}
-use Rattle.machine.specs.Machine.{State as Plain, Running, stopping, current, starting, formed, sizes, in_job, act, given}
+use Rattle.machine.specs.Machine.{State as Plain, Running, stopping, current, starting, formed, sizes, in_job, given}
 use Rattle.theory.proofs.ReadSizes.{both}
 use Rattle.machine.specs.View.{state_of, code_of, act_of, Steps}
 use Rattle.machine.specs.declared.counts.Cell.{Cell}

@@ -1,0 +1,13 @@
+-- Nothing from place k on writes the cell,
+-- so the last entry of the first k is the last of all.
+use mathlib.Core.Path.{◌≡◌}
+use Prim.Native.Nat.{◌≤◌}
+use Rattle.theory.specs.Engine.{last_at}
+use Rattle.rules.specs.View.{entries_of, journal_of}
+use Rattle.rules.proofs.journal.last_entry.Given as goal
+
+abbrev pub invariant-loop-k : goal.invariant-loop-k
+invariant-loop-k l = (l.k ≤ l.j.size) × (last_at (entries_of l.k l.j) l.c.0 ≡ last_at (journal_of l.j) l.c.0)
+
+abbrev pub decreases-loop-k : goal.decreases-loop-k
+decreases-loop-k l = l.k

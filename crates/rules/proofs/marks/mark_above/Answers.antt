@@ -1,0 +1,13 @@
+-- The lists from k on are as they were,
+-- and sweeping them is what is left of the whole sweep.
+use borrow.Author.Rules.{rules}
+use Rattle.rules.proofs.Laws.Arrays.{array_laws}
+use Rattle.rules.proofs.Laws.Marks.{sweep_laws, ahead_on, sweep_on}
+use Rattle.rules.proofs.marks.mark_above.Goals as goal
+
+pub loop-k-preserved : goal.loop-k-preserved
+loop-k-preserved c =
+    (search rules, search rules, search rules, search (ahead_on, rules), search rules, search rules, search (sweep_on, rules))
+
+pub returns : goal.returns
+returns c = search (sweep_laws, array_laws, rules)

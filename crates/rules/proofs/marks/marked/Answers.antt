@@ -1,0 +1,2 @@
+-- Only the mark changes,
+-- to the one that the reads give.

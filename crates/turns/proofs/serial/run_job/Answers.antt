@@ -1,0 +1,2 @@
+-- The writes that a job alone leaves,
+-- over the table, are the job alone.

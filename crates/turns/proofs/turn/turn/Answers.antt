@@ -1,0 +1,2 @@
+-- Each part that the turn changes
+-- is stored where it stood.
