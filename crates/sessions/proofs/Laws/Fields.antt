@@ -1,7 +1,7 @@
 -- The fields of a session: each takes bytes, so the number of bytes is fields enough, and a loop over the fields is the definition's own
 -- recursion from the place that it has reached.
 use mathlib.Core.Path.{◌≡◌, refl, ap, sym, ◌∙◌}
-use mathlib.Core.Bool.{Bool, true, false, not, cond, ◌&&◌}
+use mathlib.Core.Bool.{Bool, true, false, cond, ◌&&◌}
 use mathlib.Core.List.{List, [], ◌∷◌}
 use Prim.Native.Nat.{ℕ, zero, suc, ◌+◌, ◌-◌, ◌^◌, ◌≤◌, ◌<◌}
 use native.Mathlib.Omega.{arith}
@@ -12,7 +12,7 @@ use lib.ListN.{length, get_or, take, drop, set, replicate, length-drop, drop_of_
 use lib.Seq.{get_or-drop, drop-drop, length-take-le}
 use mir.Val.{Fits}
 use mir.Syntax.{w64}
-use borrow.Author.Tests.{lt-ltb, le-ltb, le-leb, lt-leb, eq-eqb, ne_eqb, leb-true, eqb-true, not-true, not-false}
+use borrow.Author.Tests.{lt-ltb, le-ltb, le-leb, lt-leb, eq-eqb, ne_eqb, leb-true, eqb-true}
 use Rattle.theory.proofs.ReadSizes.{both}
 use Rattle.machine.specs.Paper.{little, tag, size, later}
 use Rattle.sessions.specs.Limits.{BYTES, TURNS}
@@ -194,8 +194,8 @@ module _ (bs : List ℕ) (at least : ℕ) (e : is_field 1 (drop at bs) ≡ true)
 
 pub ruleset next_laws = (cell_head, next_size, next_inside, next_cell)
 
-pub told : (r t : Bool) → r ≡ t → not r ≡ false → t ≡ true
-told r t e n = sym e ∙ not-false r n
+pub told : (r t : Bool) → r ≡ t → r ≡ true → t ≡ true
+told r t e n = sym e ∙ n
 
 -- ---- the loop over the cells
 pub start_zeros : (bs : List ℕ) (r : Start) → Starts (replicate 256 0) bs r → Starts zeros bs r
@@ -210,18 +210,18 @@ module _ (unnamed bs : List ℕ) (at least : ℕ) (table : List ℕ) (inv : from
   start_end l = done (rw (drop_of_length-le bs l) (no_field 1))
 
   module _ (r : Bool) (er : r ≡ is_field 1 (drop at bs)) where
-    pub start_done : not r ≡ true → Starts unnamed bs (record { sound = true; table = table; next = at })
-    start_done n = done (sym er ∙ not-true r n)
+    pub start_done : r ≡ false → Starts unnamed bs (record { sound = true; table = table; next = at })
+    start_done n = done (sym er ∙ n)
 
-    module _ (nr : not r ≡ false) (s : Bool) (es : s ≡ is_next_cell least (drop at bs)) where
-      pub start_breach : not s ≡ true → Starts unnamed bs (record { sound = false; table = table; next = at })
+    module _ (nr : r ≡ true) (s : Bool) (es : s ≡ is_next_cell least (drop at bs)) where
+      pub start_breach : s ≡ false → Starts unnamed bs (record { sound = false; table = table; next = at })
       start_breach n = record {
         sound = λ q. absurd (let z : ◌≡◌ {A = ℕ} 0 1 = cc in omega arith);
-        breach = λ q. sym inv ∙ from_breach least table (drop at bs) (told r _ er nr) (sym es ∙ not-true s n);
+        breach = λ q. sym inv ∙ from_breach least table (drop at bs) (told r _ er nr) (sym es ∙ n);
         inside = inside;
       }
 
-      module _ (ns : not s ≡ false) where
+      module _ (ns : s ≡ true) where
         nine : size (drop at bs) ≡ 9
         unfolding is_next_cell
         nine = eqb-true (size (drop at bs)) 9 (both (eqb (size (drop at bs)) 9) (leb least (cell_in (drop at bs))) (told s _ es ns)).0
@@ -243,10 +243,10 @@ pub ruleset start_laws = (told, start_done, start_breach, cell_inside, cell_thir
 
 -- ---- the loop over the paper
 module _ (bs : List ℕ) (at from : ℕ) (inv : at + paper_length (drop at bs) ≡ from + paper_length (drop from bs)) (r : Bool) (er : r ≡ is_field 16 (drop at bs)) where
-  pub paper_done : not r ≡ true → at ≡ from + paper_length (drop from bs)
-  paper_done n = omega (arith, inv, paper_none (drop at bs) (sym er ∙ not-true r n))
+  pub paper_done : r ≡ false → at ≡ from + paper_length (drop from bs)
+  paper_done n = omega (arith, inv, paper_none (drop at bs) (sym er ∙ n))
 
-  module _ (nr : not r ≡ false) where
+  module _ (nr : r ≡ true) where
     pub paper_head : at + 3 ≤ length bs
     paper_head = omega (arith, whole 16 (drop at bs) (told r _ er nr), length-drop at bs)
 
@@ -275,18 +275,18 @@ pub ruleset paper_laws = (told, paper_done, paper_head, paper_inside, paper_sum,
 
 -- ---- the field of tickets
 module _ (bs : List ℕ) (at : ℕ) (r : Bool) (er : r ≡ is_field 2 (drop at bs)) where
-  pub turns_other : not r ≡ true → false ≡ is_turns (drop at bs)
+  pub turns_other : r ≡ false → false ≡ is_turns (drop at bs)
   unfolding is_turns
-  turns_other n = rw (← er, not-true r n) refl
+  turns_other n = rw (← er, n) refl
 
-  module _ (nr : not r ≡ false) where
+  module _ (nr : r ≡ true) where
     pub turns_head : at + 3 ≤ length bs
     turns_head = omega (arith, whole 2 (drop at bs) (told r _ er nr), length-drop at bs)
 
     module _ (n : ℕ) (en : n ≡ size (drop at bs)) where
       pub turns_long : TURNS < n → false ≡ is_turns (drop at bs)
       unfolding is_turns
-      turns_long l = rw (← er, not-false r nr, ← en, lt-leb n TURNS l) refl
+      turns_long l = rw (← er, nr, ← en, lt-leb n TURNS l) refl
 
       pub turns_inside : at + 3 + n ≤ length bs
       turns_inside = omega (arith, whole 2 (drop at bs) (told r _ er nr), length-drop at bs)
@@ -294,7 +294,7 @@ module _ (bs : List ℕ) (at : ℕ) (r : Bool) (er : r ≡ is_field 2 (drop at b
       module _ (l : n ≤ TURNS) where
         counted : eqb (length bs - at) (3 + n) ≡ is_turns (drop at bs)
         unfolding is_turns
-        counted = rw (← er, not-false r nr, ← en, le-leb n TURNS l, length-drop at bs) refl
+        counted = rw (← er, nr, ← en, le-leb n TURNS l, length-drop at bs) refl
 
         pub turns_more : (at + 3 + n ≡ length bs → ⊥) → false ≡ is_turns (drop at bs)
         turns_more q = sym (ne_eqb (length bs - at) (3 + n) (λ e. q (omega (arith, turns_inside)))) ∙ counted
@@ -326,11 +326,11 @@ module _ (bs table : List ℕ) (from to : ℕ) (et : to ≡ from + paper_length 
   rest = drop-drop (paper_length (drop from bs)) from bs ∙ ap (λ (k : ℕ). drop k bs) (sym et)
 
   module _ (t : Bool) (er : t ≡ is_turns (drop to bs)) where
-    pub parts_breach : (r : Parts) → not t ≡ true → r.sound ≡ false → Divides bs (after_cells table (drop from bs)) r
+    pub parts_breach : (r : Parts) → t ≡ false → r.sound ≡ false → Divides bs (after_cells table (drop from bs)) r
     unfolding after_cells
-    parts_breach r n e = breached bs _ r e (rw (rest, ← er, not-true t n) refl)
+    parts_breach r n e = breached bs _ r e (rw (rest, ← er, n) refl)
 
-    pub parts_sound : not t ≡ false → Divides bs (after_cells table (drop from bs)) (record { sound = true; table = table; paper = from; turns = to })
+    pub parts_sound : t ≡ true → Divides bs (after_cells table (drop from bs)) (record { sound = true; table = table; paper = from; turns = to })
     parts_sound n = record {
       sound = λ q. whole_session;
       breach = λ q. absurd (let z : ◌≡◌ {A = ℕ} 0 1 = cc in omega arith);
@@ -355,13 +355,13 @@ module _ (bs : List ℕ) (r : Parts) where
   session_large l e = breached bs _ r e (rw (lt-ltb BYTES (length bs) l) refl)
 
   module _ (small : length bs ≤ BYTES) (s : Start) (starts : Starts zeros bs s) where
-    pub session_breach : not s.sound ≡ true → r.sound ≡ false → Divides bs (session_of bs) r
+    pub session_breach : s.sound ≡ false → r.sound ≡ false → Divides bs (session_of bs) r
     unfolding session_of
-    session_breach n e = breached bs _ r e (rw (le-ltb BYTES (length bs) small) (starts.breach (not-true s.sound n)))
+    session_breach n e = breached bs _ r e (rw (le-ltb BYTES (length bs) small) (starts.breach n))
 
-    pub session_parts : not s.sound ≡ false → Divides bs (after_cells s.table (drop s.next bs)) r → Divides bs (session_of bs) r
+    pub session_parts : s.sound ≡ true → Divides bs (after_cells s.table (drop s.next bs)) r → Divides bs (session_of bs) r
     unfolding session_of
-    session_parts n d = rw (le-ltb BYTES (length bs) small, starts.sound (not-false s.sound n)) d
+    session_parts n d = rw (le-ltb BYTES (length bs) small, starts.sound n) d
 
 pub start_inside : (bs : List ℕ) (s : Start) → Starts zeros bs s → s.next ≤ length bs
 start_inside bs s h = h.inside

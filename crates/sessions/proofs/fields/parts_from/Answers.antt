@@ -1,0 +1,15 @@
+-- The paper ends inside the session,
+-- and the rest is the field of tickets or the session is in breach.
+use borrow.Author.Rules.{rules}
+use Rattle.sessions.proofs.Laws.Fields.{parts_laws}
+use borrow.Author.Rules.{rules}
+use Rattle.sessions.proofs.fields.parts_from.Goals as goal
+
+pub ends_in_turns-requires : goal.ends_in_turns-requires
+ends_in_turns-requires c = search (parts_laws, rules)
+
+pub returns-then-not-ends_in_turns : goal.returns-then-not-ends_in_turns
+returns-then-not-ends_in_turns c = search (parts_laws, rules)
+
+pub returns : goal.returns
+returns c = search (parts_laws, rules)
