@@ -6,107 +6,133 @@ use crate::altered::{
 };
 use crate::tell::{LENT, say, tell, tell_settled};
 use rules::block::Block;
+use std::io;
+use std::io::Write;
 
 // The last of 16 jobs is tested as the others are.
-fn try_job_counts(b: Block) {
+fn try_job_counts<O: Write>(out: &mut O, b: Block) -> io::Result<()> {
     let full = with_jobs(b, 16);
     let high = at_height(full, 15, 17);
     let far = checkpoint_at_height(full, 120, 17);
-    tell(b"1 job", with_count(b, 1), 1);
-    tell(b"16 jobs", full, 16);
-    tell(b"16 jobs, a stack of 17 in the last", high, 1);
-    tell(b"16 jobs, a checkpoint's stack of 17 in the last", far, 1);
-    tell(b"17 jobs", with_jobs(b, 17), 16);
-    tell(b"17 jobs", with_jobs(b, 17), 17);
-    tell(b"255 jobs", with_jobs(b, 255), 255);
+    tell(out, b"1 job", with_count(b, 1), 1)?;
+    tell(out, b"16 jobs", full, 16)?;
+    tell(out, b"16 jobs, a stack of 17 in the last", high, 1)?;
+    tell(
+        out,
+        b"16 jobs, a checkpoint's stack of 17 in the last",
+        far,
+        1,
+    )?;
+    tell(out, b"17 jobs", with_jobs(b, 17), 16)?;
+    tell(out, b"17 jobs", with_jobs(b, 17), 17)?;
+    tell(out, b"255 jobs", with_jobs(b, 255), 255)
 }
 
 // 14 comes before 20.
-fn try_tickets(b: Block) {
-    tell(b"as it was", b, 0);
-    tell(b"as it was", b, 3);
-    tell(b"17 jobs", with_jobs(b, 17), 0);
-    tell(b"17 jobs", with_jobs(b, 17), 18);
-    tell(b"a stack of 17", at_height(b, 1, 17), 0);
-    tell(b"a stack of 17", at_height(b, 1, 17), 3);
-    tell(b"1 job", with_count(b, 1), 2);
-    tell(b"no job", with_count(b, 0), 1);
+fn try_tickets<O: Write>(out: &mut O, b: Block) -> io::Result<()> {
+    tell(out, b"as it was", b, 0)?;
+    tell(out, b"as it was", b, 3)?;
+    tell(out, b"17 jobs", with_jobs(b, 17), 0)?;
+    tell(out, b"17 jobs", with_jobs(b, 17), 18)?;
+    tell(out, b"a stack of 17", at_height(b, 1, 17), 0)?;
+    tell(out, b"a stack of 17", at_height(b, 1, 17), 3)?;
+    tell(out, b"1 job", with_count(b, 1), 2)?;
+    tell(out, b"no job", with_count(b, 0), 1)
 }
 
 // 12 comes before 20.
-fn try_tables(b: Block) {
+fn try_tables<O: Write>(out: &mut O, b: Block) -> io::Result<()> {
     let mut short = [LENT; 255];
     let mut long = [LENT; 257];
-    say(b"a lent table of 255 cells");
-    tell_settled(b, &mut short);
-    say(b"a lent table of 257 cells");
-    tell_settled(b, &mut long);
-    say(b"a lent table of 255 cells and a stack of 17");
-    tell_settled(at_height(b, 1, 17), &mut short);
+    say(out, b"a lent table of 255 cells")?;
+    tell_settled(out, b, &mut short)?;
+    say(out, b"a lent table of 257 cells")?;
+    tell_settled(out, b, &mut long)?;
+    say(out, b"a lent table of 255 cells and a stack of 17")?;
+    tell_settled(out, at_height(b, 1, 17), &mut short)
 }
 
 // A job of no instructions has no place to stand at; one that is not counted is not tested.
-fn try_instruction_counts(b: Block) {
+fn try_instruction_counts<O: Write>(out: &mut O, b: Block) -> io::Result<()> {
     let empty = with_size(b, 2, 0);
-    tell(b"64 instructions", with_stops(b, 1, 64), 2);
-    tell(b"65 instructions", with_stops(b, 1, 65), 2);
-    tell(b"255 instructions", with_stops(b, 1, 255), 2);
-    tell(b"no instructions", with_stops(b, 1, 0), 2);
-    tell(b"65 instructions in the final job", with_stops(b, 0, 65), 2);
-    tell(b"no instructions past the job count", empty, 2);
-    tell(b"no instructions in a third job", with_count(empty, 3), 2);
+    tell(out, b"64 instructions", with_stops(b, 1, 64), 2)?;
+    tell(out, b"65 instructions", with_stops(b, 1, 65), 2)?;
+    tell(out, b"255 instructions", with_stops(b, 1, 255), 2)?;
+    tell(out, b"no instructions", with_stops(b, 1, 0), 2)?;
+    tell(
+        out,
+        b"65 instructions in the final job",
+        with_stops(b, 0, 65),
+        2,
+    )?;
+    tell(out, b"no instructions past the job count", empty, 2)?;
+    tell(
+        out,
+        b"no instructions in a third job",
+        with_count(empty, 3),
+        2,
+    )
 }
 
-fn try_places(b: Block) {
+fn try_places<O: Write>(out: &mut O, b: Block) -> io::Result<()> {
     let past = checkpoint_at_place(b, 9, 5);
-    tell(b"place 4 of 5", at_place(b, 1, 4), 2);
-    tell(b"place 5 of 5", at_place(b, 1, 5), 2);
-    tell(b"place 255 of 5", at_place(b, 1, 255), 2);
-    tell(b"place 3 of 4 in the final job", at_place(b, 0, 3), 1);
-    tell(b"place 4 of 4 in the final job", at_place(b, 0, 4), 1);
-    tell(b"place 255 past the job count", at_place(b, 2, 255), 2);
+    tell(out, b"place 4 of 5", at_place(b, 1, 4), 2)?;
+    tell(out, b"place 5 of 5", at_place(b, 1, 5), 2)?;
+    tell(out, b"place 255 of 5", at_place(b, 1, 255), 2)?;
+    tell(out, b"place 3 of 4 in the final job", at_place(b, 0, 3), 1)?;
+    tell(out, b"place 4 of 4 in the final job", at_place(b, 0, 4), 1)?;
+    tell(out, b"place 255 past the job count", at_place(b, 2, 255), 2)?;
     tell(
+        out,
         b"a checkpoint's place 4 of 5",
         checkpoint_at_place(b, 8, 4),
         2,
-    );
+    )?;
     tell(
+        out,
         b"a checkpoint's place 5 of 5",
         checkpoint_at_place(b, 8, 5),
         2,
-    );
-    tell(b"a checkpoint's place 5 of 5 past the list", past, 2);
+    )?;
+    tell(out, b"a checkpoint's place 5 of 5 past the list", past, 2)
 }
 
-fn try_stacks(b: Block) {
+fn try_stacks<O: Write>(out: &mut O, b: Block) -> io::Result<()> {
     let past = checkpoint_at_height(b, 9, 17);
     let last = checkpoint_at_height(with_reads(b, 1, 8, 5), 15, 17);
-    tell(b"a stack of 16", at_height(b, 1, 16), 2);
-    tell(b"a stack of 17", at_height(b, 1, 17), 2);
-    tell(b"a stack of 17", at_height(b, 1, 17), 1);
-    tell(b"a stack of 255", at_height(b, 1, 255), 2);
-    tell(b"a stack of 17 in the final job", at_height(b, 0, 17), 1);
+    tell(out, b"a stack of 16", at_height(b, 1, 16), 2)?;
+    tell(out, b"a stack of 17", at_height(b, 1, 17), 2)?;
+    tell(out, b"a stack of 17", at_height(b, 1, 17), 1)?;
+    tell(out, b"a stack of 255", at_height(b, 1, 255), 2)?;
     tell(
+        out,
+        b"a stack of 17 in the final job",
+        at_height(b, 0, 17),
+        1,
+    )?;
+    tell(
+        out,
         b"a checkpoint's stack of 16",
         checkpoint_at_height(b, 8, 16),
         2,
-    );
+    )?;
     tell(
+        out,
         b"a checkpoint's stack of 17",
         checkpoint_at_height(b, 8, 17),
         2,
-    );
-    tell(b"a checkpoint's stack of 17, the last of 8", last, 2);
-    tell(b"a checkpoint's stack of 17 past the list", past, 2);
+    )?;
+    tell(out, b"a checkpoint's stack of 17, the last of 8", last, 2)?;
+    tell(out, b"a checkpoint's stack of 17 past the list", past, 2)
 }
 
-pub(crate) fn try_jobs(b: Block) {
-    tell(b"as it was", b, 1);
-    tell(b"as it was", b, 2);
-    try_job_counts(b);
-    try_tickets(b);
-    try_tables(b);
-    try_instruction_counts(b);
-    try_places(b);
-    try_stacks(b);
+pub(crate) fn try_jobs<O: Write>(out: &mut O, b: Block) -> io::Result<()> {
+    tell(out, b"as it was", b, 1)?;
+    tell(out, b"as it was", b, 2)?;
+    try_job_counts(out, b)?;
+    try_tickets(out, b)?;
+    try_tables(out, b)?;
+    try_instruction_counts(out, b)?;
+    try_places(out, b)?;
+    try_stacks(out, b)
 }

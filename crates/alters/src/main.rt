@@ -1,5 +1,6 @@
 // Shows by runs that 20 is answered exactly where document 01 says, on blocks in work that a caller has altered: a line
-// an alteration. The lines that are expected were written by hand from document 01.
+// an alteration. The lines that are expected were written by hand from document 01. A write that fails ends the program
+// with its error.
 #![tactic(auto)]
 
 mod altered;
@@ -17,29 +18,28 @@ use crate::needs::try_needs;
 use crate::tell::say;
 use machine::counts::Ticket;
 use rules::block::Block;
+use std::io;
+use std::io::Write;
 use turns::open::{Opened, Opening, open};
 use turns::turn::turn;
 
 fn played(b: Block, tickets: &[u8]) -> Block {
     let mut r = b;
-    let mut k: usize = 0;
-    while k < tickets.len() {
-        let turned = turn(r, Ticket(tickets[k]));
-        let next = turned.block;
-        r = next;
-        k = k + 1;
+    for ticket in tickets {
+        let turned = turn(r, Ticket(*ticket));
+        r = turned.block;
     }
     r
 }
 
 // In the midway block both jobs run; in the other job 1 is final, and job 2 has ended and is marked at its only read.
-fn try_all(fresh: Block) {
+fn try_all<O: Write>(out: &mut O, fresh: Block) -> io::Result<()> {
     let midway = played(fresh, b"\x01\x01\x02");
     let ended = played(fresh, b"\x02\x02\x02\x02\x02\x01\x01\x01\x01\x01");
-    try_jobs(ended);
-    try_codes(ended);
-    try_lists(ended);
-    try_needs(midway, ended);
+    try_jobs(out, ended)?;
+    try_codes(out, ended)?;
+    try_lists(out, ended)?;
+    try_needs(out, midway, ended)
 }
 
 // Job 1: PUSH 7, PUSH 5, WRITE, STOP. Job 2: PUSH 5, READ, PUSH 6, WRITE, STOP. Cell 5 starts at 3.
@@ -60,12 +60,13 @@ fn open_paper() -> Opened {
     open(&start, paper)
 }
 
-fn main() {
+fn main(rt: HostRuntime) -> io::Result<()> {
+    let mut out = rt.stdout();
     let opened = open_paper();
     let answer = opened.answer;
     let fresh = opened.block;
     match answer {
-        Opening::Accepted => try_all(fresh),
-        _ => say(b"refused\n"),
+        Opening::Accepted => try_all(&mut out, fresh),
+        _ => say(&mut out, b"refused\n"),
     }
 }

@@ -5,8 +5,7 @@ use machine::job::{Stack, State};
 use rules::block::{Block, Checkpoint, Entry, Journal, Program, Read, Reads, Versions};
 
 fn same_job(a: Program, b: Program) -> bool {
-    let mut k: usize = 0;
-    while k < 64 {
+    for k in 0..64 {
         if a.codes[k] != b.codes[k] {
             return false;
         }
@@ -16,18 +15,15 @@ fn same_job(a: Program, b: Program) -> bool {
         if a.pushed[k] != b.pushed[k] {
             return false;
         }
-        k = k + 1;
     }
     a.size == b.size
 }
 
 fn same_stack(a: Stack, b: Stack) -> bool {
-    let mut k: usize = 0;
-    while k < 16 {
+    for k in 0..16 {
         if a.entries[k] != b.entries[k] {
             return false;
         }
-        k = k + 1;
     }
     a.height == b.height
 }
@@ -49,25 +45,21 @@ fn same_entry(a: Entry, b: Entry) -> bool {
 }
 
 fn same_journal(a: Journal, b: Journal) -> bool {
-    let mut k: usize = 0;
-    while k < 8 {
+    for k in 0..8 {
         let x = a.entries[k];
         let y = b.entries[k];
         if !same_entry(x, y) {
             return false;
         }
-        k = k + 1;
     }
     a.size == b.size
 }
 
 fn same_versions(a: Versions, b: Versions) -> bool {
-    let mut k: usize = 0;
-    while k < 8 {
+    for k in 0..8 {
         if a.numbers[k] != b.numbers[k] {
             return false;
         }
-        k = k + 1;
     }
     a.size == b.size
 }
@@ -83,14 +75,12 @@ fn same_read(a: Read, b: Read) -> bool {
 }
 
 fn same_reads(a: Reads, b: Reads) -> bool {
-    let mut k: usize = 0;
-    while k < 8 {
+    for k in 0..8 {
         let x = a.reads[k];
         let y = b.reads[k];
         if !same_read(x, y) {
             return false;
         }
-        k = k + 1;
     }
     if a.size != b.size {
         return false;
@@ -111,25 +101,21 @@ fn same_checkpoint(a: Checkpoint, b: Checkpoint) -> bool {
 }
 
 fn same_checkpoints(a: [Checkpoint; 128], b: [Checkpoint; 128]) -> bool {
-    let mut k: usize = 0;
-    while k < 128 {
+    for k in 0..128 {
         let x = a[k];
         let y = b[k];
         if !same_checkpoint(x, y) {
             return false;
         }
-        k = k + 1;
     }
     true
 }
 
 fn same_table(a: [u64; 256], b: [u64; 256]) -> bool {
-    let mut k: usize = 0;
-    while k < 256 {
+    for k in 0..256 {
         if a[k] != b[k] {
             return false;
         }
-        k = k + 1;
     }
     true
 }
@@ -158,8 +144,7 @@ fn same_run(a: Block, b: Block, k: usize) -> bool
 
 // The jobs and what they keep, but for the checkpoints.
 fn same_jobs(a: Block, b: Block) -> bool {
-    let mut k: usize = 0;
-    while k < 16 {
+    for k in 0..16 {
         let i = a.jobs[k];
         let j = b.jobs[k];
         if !same_job(i, j) {
@@ -173,7 +158,6 @@ fn same_jobs(a: Block, b: Block) -> bool {
         if !same_run(a, b, k) {
             return false;
         }
-        k = k + 1;
     }
     true
 }

@@ -1,24 +1,39 @@
-// Plays one session: its bytes from standard input, its text to standard output.
+// Plays one session: its bytes from standard input, its text to standard output. A read or a write that fails ends the
+// program with its error.
 #![tactic(auto)]
 
-ghost use Rattle.std.specs.Prelude.{◌≡◌, length};
+ghost use Rattle.std.specs.Prelude.{◌≡◌, ◌≤◌, IfOk, length};
 
-use libc::{STDIN_FILENO, STDOUT_FILENO};
 use sessions::play::play;
+use std::io;
+use std::io::{ErrorKind, Read, Write};
 
-// Reads what is left, so that whoever writes to us is not cut off.
-fn drain() {
-    let mut bytes = io::large_buffer();
-    let mut reads = u64::MAX;
-    while reads > 0 {
-        if io::read_full(STDIN_FILENO, &mut bytes) == 0 {
-            return;
+// Reads until the buffer is full or the input ends; the answer is how many bytes stand at its start.
+fn read_full<I: Read>(input: &mut I, bytes: &mut [u8]) -> io::Result<usize>
+    ensures { IfOk result (λ n. n ≤ length bytes.new) }
+{
+    let mut size = 0;
+    for _ in 0..u64::MAX {
+        match input.read(&mut bytes[size..]) {
+            Ok(0) => return Ok(size),
+            Ok(n) => size += n,
+            Err(e) => {
+                if e.kind() != ErrorKind::Interrupted {
+                    return Err(e);
+                }
+            }
         }
-        reads -= 1;
     }
+    Ok(size)
 }
 
-// Bytes of the longest text that a session can have (`text-short`), and one more than a session may have, so that too long a one is seen.
+// Reads what is left, so that whoever writes to us is not cut off.
+fn drain<I: Read>(input: &mut I) -> io::Result<()> {
+    io::copy(input, &mut io::sink())?;
+    Ok(())
+}
+
+// Bytes of the longest text that a session can have (`text_short`), and one more than a session may have, so that too long a one is seen.
 const TEXT: usize = 204032;
 
 const INPUT: usize = 16385;
@@ -29,11 +44,12 @@ fn room() -> [u8; TEXT]
     [0; TEXT]
 }
 
-fn main() {
+fn main(rt: HostRuntime) -> io::Result<()> {
+    let (mut stdin, mut stdout) = (rt.stdin(), rt.stdout());
     let mut input = [0u8; INPUT];
     let mut output = room();
-    let n = io::read_full(STDIN_FILENO, &mut input);
-    drain();
+    let n = read_full(&mut stdin, &mut input)?;
+    drain(&mut stdin)?;
     let size = play(&input[..n], &mut output);
-    io::write_all(STDOUT_FILENO, &output[..size]);
+    stdout.write_all(&output[..size])
 }

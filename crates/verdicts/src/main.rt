@@ -1,14 +1,15 @@
 // Reads papers as text from standard input and writes the checker's answer to each, a line a paper: `passes` and the
 // number of jobs, or `refused`, number, field and place. A word of two hexadecimal digits is a byte; the word `.` ends a
 // paper; a number sign starts a comment to the end of its line. The first word that is none of these, or a last paper
-// that no dot ends, is told on standard error with its line, and nothing is written after that.
+// that no dot ends, is told on standard error with its line, and nothing is written after that. A read or a write that
+// fails ends the program with its error.
 #![tactic(auto)]
 
 ghost use Rattle.std.specs.Prelude.{◌≤◌};
 
-use libc::{STDERR_FILENO, STDIN_FILENO, STDOUT_FILENO};
 use machine::paper::{Verdict, check_paper};
-use std::num::wrapping_add_u64;
+use std::io;
+use std::io::{ErrorKind, Read, Write};
 
 // Where the text is: between words, in a word or just behind it, in a comment, or past a word that is wrong.
 #[derive(Clone, Copy)]
@@ -70,7 +71,7 @@ impl Reader {
             size: self.size,
             digit: Reader::NO_DIGIT,
             at: At::Gap,
-            line: wrapping_add_u64(self.line, 1),
+            line: self.line.wrapping_add(1),
             last: self.last,
         }
     }
@@ -88,85 +89,91 @@ fn digit_of(b: u8) -> u8
     }
 }
 
-fn say(word: &[u8], number: u8) {
-    io::write_all(STDOUT_FILENO, word);
-    io::print_decimal(STDOUT_FILENO, number as u64);
+fn say<O: Write>(out: &mut O, word: &[u8], number: u8) -> io::Result<()> {
+    out.write_all(word)?;
+    write!(out, "{number}")
 }
 
-fn answer(paper: &[u8]) {
+fn answer<O: Write>(out: &mut O, paper: &[u8]) -> io::Result<()> {
     let checked = check_paper(paper);
     let verdict = checked.verdict;
     match verdict {
         Verdict::Accepted => {
-            say(b"passes ", checked.count);
+            say(out, b"passes ", checked.count)?;
         }
         Verdict::Refused(fault, field, place) => {
-            say(b"refused ", fault.number());
-            say(b" ", field.0);
-            say(b" ", place.0);
+            say(out, b"refused ", fault.number())?;
+            say(out, b" ", field.0)?;
+            say(out, b" ", place.0)?;
         }
     }
-    io::write_all(STDOUT_FILENO, b"\n");
+    out.write_all(b"\n")
 }
 
 // The answer to the first bytes of the buffer.
-fn answer_first(buffer: &[u8], size: usize) {
+fn answer_first<O: Write>(out: &mut O, buffer: &[u8], size: usize) -> io::Result<()> {
     if size <= buffer.len() {
-        answer(&buffer[..size]);
+        answer(out, &buffer[..size])?;
     }
+    Ok(())
 }
 
-fn tell(line: u64, what: &[u8]) {
-    io::write_all(STDERR_FILENO, b"line ");
-    io::print_decimal(STDERR_FILENO, line);
-    io::write_all(STDERR_FILENO, what);
+fn tell<E: Write>(err: &mut E, line: u64, what: &[u8]) -> io::Result<()> {
+    write!(err, "line {line}")?;
+    err.write_all(what)
 }
 
 // A word that is no byte ends the papers.
-fn refuse_word(r: Reader) -> Reader {
-    tell(r.line, b": not a byte of two hex digits\n");
-    r.with(0, At::Wrong)
+fn refuse_word<E: Write>(err: &mut E, r: Reader) -> io::Result<Reader> {
+    tell(err, r.line, b": not a byte of two hex digits\n")?;
+    Ok(r.with(0, At::Wrong))
 }
 
 // The reader after a byte that parts words.
-fn part_words(r: Reader, b: u8) -> Reader {
+fn part_words<E: Write>(err: &mut E, r: Reader, b: u8) -> io::Result<Reader> {
     match b {
-        b'\n' => r.next_line(),
-        b'#' => r.with(r.size, At::Comment),
-        b' ' | 9 | 11 | 12 | 13 => r.with(r.size, At::Gap),
-        _ => refuse_word(r),
+        b'\n' => Ok(r.next_line()),
+        b'#' => Ok(r.with(r.size, At::Comment)),
+        b' ' | 9 | 11 | 12 | 13 => Ok(r.with(r.size, At::Gap)),
+        _ => refuse_word(err, r),
     }
 }
 
 // The reader after the first byte of a word, or one between words.
-fn begin_word(paper: &mut [u8], r: Reader, b: u8) -> Reader {
+fn begin_word<O: Write, E: Write>(
+    out: &mut O,
+    err: &mut E,
+    paper: &mut [u8],
+    r: Reader,
+    b: u8,
+) -> io::Result<Reader> {
     let digit = digit_of(b);
     if digit < Reader::NO_DIGIT {
-        return r.with_digit(digit);
+        return Ok(r.with_digit(digit));
     }
     if b == b'.' {
-        answer_first(&*paper, r.size);
-        return r.with(0, At::Word);
+        answer_first(out, &*paper, r.size)?;
+        return Ok(r.with(0, At::Word));
     }
-    part_words(r, b)
+    part_words(err, r, b)
 }
 
 // The reader after a further byte: the second digit, or what follows a whole word. A byte past the buffer is dropped.
-fn end_word(paper: &mut [u8], r: Reader, b: u8) -> Reader {
+fn end_word<E: Write>(err: &mut E, paper: &mut [u8], r: Reader, b: u8) -> io::Result<Reader> {
     let size = r.size;
     let high = r.digit;
     if Reader::NO_DIGIT <= high {
-        return part_words(r, b);
+        return part_words(err, r, b);
     }
     let low = digit_of(b);
     if Reader::NO_DIGIT <= low {
-        return refuse_word(r);
+        return refuse_word(err, r);
     }
     if size < paper.len() {
         paper[size] = high * 16 + low;
-        return r.with(size + 1, At::Word);
+        return Ok(r.with(size + 1, At::Word));
     }
-    r.with(size, At::Word)
+    Ok(r.with(size, At::Word))
 }
 
 fn skip_comment(r: Reader, b: u8) -> Reader {
@@ -177,51 +184,67 @@ fn skip_comment(r: Reader, b: u8) -> Reader {
 }
 
 // The reader after one byte.
-fn read_byte(paper: &mut [u8], r: Reader, b: u8) -> Reader {
+fn read_byte<O: Write, E: Write>(
+    out: &mut O,
+    err: &mut E,
+    paper: &mut [u8],
+    r: Reader,
+    b: u8,
+) -> io::Result<Reader> {
     let at = r.at;
     match at {
-        At::Gap => begin_word(paper, r, b),
-        At::Word => end_word(paper, r, b),
-        At::Comment => skip_comment(r, b),
-        At::Wrong => r,
+        At::Gap => begin_word(out, err, paper, r, b),
+        At::Word => end_word(err, paper, r, b),
+        At::Comment => Ok(skip_comment(r, b)),
+        At::Wrong => Ok(r),
     }
 }
 
-fn read_bytes(paper: &mut [u8], r: Reader, bytes: &[u8]) -> Reader {
+fn read_bytes<O: Write, E: Write>(
+    out: &mut O,
+    err: &mut E,
+    paper: &mut [u8],
+    r: Reader,
+    bytes: &[u8],
+) -> io::Result<Reader> {
     let mut reader = r;
-    let mut i = 0;
-    while i < bytes.len() {
-        reader = read_byte(&mut *paper, reader, bytes[i]);
-        i += 1;
+    for b in bytes {
+        reader = read_byte(out, err, paper, reader, *b)?;
     }
-    reader
+    Ok(reader)
 }
 
 // Half a byte, or a paper without its dot, is told at the end of the text.
-fn end_text(r: Reader) {
+fn end_text<E: Write>(err: &mut E, r: Reader) -> io::Result<()> {
     if r.digit < Reader::NO_DIGIT {
-        refuse_word(r);
-        return;
+        refuse_word(err, r)?;
+        return Ok(());
     }
     if r.size > 0 {
-        tell(r.last, b": no dot after the last paper\n");
+        tell(err, r.last, b": no dot after the last paper\n")?;
     }
+    Ok(())
 }
 
 // The buffer holds all that a verdict can depend on: sixteen fields that pass, of 579 bytes each, and a head with the
 // 65,535 bytes that it may announce.
-fn main() {
+fn main(rt: HostRuntime) -> io::Result<()> {
+    let (mut input, mut out, mut err) = (rt.stdin(), rt.stdout(), rt.stderr());
     let mut paper = [0u8; 74802];
-    let mut bytes = io::buffer();
+    let mut bytes = [0u8; 4096];
     let mut reader = Reader::fresh();
-    let mut turns = u64::MAX;
-    while turns > 0 {
-        let n = io::read_full(STDIN_FILENO, &mut bytes);
-        if n == 0 {
-            end_text(reader);
-            return;
+    for _ in 0..u64::MAX {
+        match input.read(&mut bytes) {
+            Ok(0) => return end_text(&mut err, reader),
+            Ok(n) => {
+                reader = read_bytes(&mut out, &mut err, &mut paper, reader, &bytes[..n])?;
+            }
+            Err(e) => {
+                if e.kind() != ErrorKind::Interrupted {
+                    return Err(e);
+                }
+            }
         }
-        reader = read_bytes(&mut paper, reader, &bytes[..n]);
-        turns -= 1;
     }
+    Ok(())
 }
