@@ -1,4 +1,4 @@
-// The engine for callers in C: each function works on the caller's own block or table, and answers a number.
+// The engine in the caller's own block or table: each function answers a number, as the exports of garvolish_c do for callers in C.
 #![tactic(auto)]
 
 pub mod number;
@@ -21,8 +21,7 @@ const MINOR: u32 = 13;
 const PATCH: u32 = 0;
 
 // The block becomes a paper's, every job fresh; or a refusal, and then a block with no jobs and an all-zero table.
-#[unsafe(no_mangle)]
-pub extern "C" fn garvolish_open(block: &mut Block, start: &[u64], paper: &[u8]) -> u32
+pub fn garvolish_open(block: &mut Block, start: &[u64], paper: &[u8]) -> u32
     ensures { OpensTo start.now paper.now result block.new }
 {
     let r = open_number(start, paper);
@@ -31,25 +30,24 @@ pub extern "C" fn garvolish_open(block: &mut Block, start: &[u64], paper: &[u8])
 }
 
 // One turn of a ticket, in the caller's own block: what the turn changes is stored where it stands.
-#[unsafe(no_mangle)]
-pub extern "C" fn garvolish_turn(block: &mut Block, ticket: u8) -> u32
+pub fn garvolish_turn(block: &mut Block, ticket: u8) -> u32
     ensures { TurnsTo block.old ticket result block.new }
 {
     let c = change_of(*block, Ticket(ticket));
     let i = c.index;
     let slot = c.slot;
+    let reads = c.reads;
     block.states[i] = c.state;
     block.status[i] = c.status;
     block.journals[i] = c.journal;
     block.versions[i] = c.versions;
-    block.reads = c.reads;
+    block.reads = reads;
     block.checkpoints[slot] = c.saved;
     number_of_word(c.word)
 }
 
 // The turns of a list of tickets, in the caller's own block, and a byte for each; the sizes are tested once.
-#[unsafe(no_mangle)]
-pub extern "C" fn garvolish_take_turns(block: &mut Block, tickets: &[u8], words: &mut [u8]) -> u32
+pub fn garvolish_take_turns(block: &mut Block, tickets: &[u8], words: &mut [u8]) -> u32
     ensures { TakesTo block.old tickets.now words.old result block.new words.new }
 {
     let r = take_number(*block, tickets, words);
@@ -58,24 +56,21 @@ pub extern "C" fn garvolish_take_turns(block: &mut Block, tickets: &[u8], words:
 }
 
 // The settled table, written whole to the lent table, and f; or a refusal, and the table untouched.
-#[unsafe(no_mangle)]
-pub extern "C" fn garvolish_settled(block: &Block, table: &mut [u64]) -> u32
+pub fn garvolish_settled(block: &Block, table: &mut [u64]) -> u32
     ensures { SettlesTo block.now table.old result table.new }
 {
     settled_number(*block, table)
 }
 
 // All jobs of a paper run one after another, and the output written whole; or a refusal, and the output untouched.
-#[unsafe(no_mangle)]
-pub extern "C" fn garvolish_run_serially(start: &[u64], output: &mut [u64], paper: &[u8]) -> u32
+pub fn garvolish_run_serially(start: &[u64], output: &mut [u64], paper: &[u8]) -> u32
     ensures { ServesTo start.now output.old paper.now result output.new }
 {
     serial_number(start, output, paper)
 }
 
 // The library's version in one number, a byte each for minor and patch.
-#[unsafe(no_mangle)]
-pub extern "C" fn garvolish_version() -> u32
+pub fn garvolish_version() -> u32
     ensures { result ≡ VERSION }
 {
     THIRD * MAJOR + SECOND * MINOR + PATCH
@@ -85,8 +80,7 @@ pub extern "C" fn garvolish_version() -> u32
 const BLOCK: u32 = 38696;
 
 // Answers them. The name has the number of the block's layout, so that a program compiled for another does not link.
-#[unsafe(no_mangle)]
-pub extern "C" fn garvolish_layout_1() -> u32
+pub fn garvolish_layout_1() -> u32
     ensures { result ≡ SIZE }
 {
     BLOCK
