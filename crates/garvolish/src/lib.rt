@@ -36,11 +36,11 @@ pub fn garvolish_turn(block: &mut Block, ticket: u8) -> u32
     let c = change_of(*block, Ticket(ticket));
     let i = c.index;
     let slot = c.slot;
-    let reads = c.reads;
     block.states[i] = c.state;
     block.status[i] = c.status;
     block.journals[i] = c.journal;
     block.versions[i] = c.versions;
+    let reads = c.reads;
     block.reads = reads;
     block.checkpoints[slot] = c.saved;
     number_of_word(c.word)
