@@ -40,7 +40,7 @@ word_few W.step = omega arith
 word_few W.end = omega arith
 word_few W.final = omega arith
 word_few W.wait = omega arith
-word_few W.badTicket = omega arith
+word_few W.bad_ticket = omega arith
 word_few W.stuck = omega arith
 
 spaced_few : (n : ℕ) → length (spaced n) ≤ 21

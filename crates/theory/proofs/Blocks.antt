@@ -73,7 +73,7 @@ module _ (L : Limits) (M : Machine) where
 
   -- ---- what a turn does
   pub data Outcome (b : Block S) (t : ℕ) : Turned L M → Type 0 where
-    no_such_job : (t ≡ 0) ⊎ (length b.jobs < t) → Outcome b t (record { word = W.badTicket; block = b })
+    no_such_job : (t ≡ 0) ⊎ (length b.jobs < t) → Outcome b t (record { word = W.bad_ticket; block = b })
     misfit : block_fits L M b ≡ false → Outcome b t (record { word = W.stuck; block = b })
     taken : (i : ℕ) → t ≡ suc i → i < length b.jobs → block_fits L M b ≡ true → Outcome b t (move_to L M b i (move_at L M b i).word (move_at L M b i).job)
 
@@ -82,7 +82,7 @@ module _ (L : Limits) (M : Machine) where
   outcome b t = go (eqb t 0) refl (ltb (length b.jobs) t) refl (block_fits L M b) refl
     where
       go : (z : Bool) → eqb t 0 ≡ z → (y : Bool) → ltb (length b.jobs) t ≡ y → (x : Bool) → block_fits L M b ≡ x →
-          Outcome b t (cond (z || y) (record { word = W.badTicket; block = b })
+          Outcome b t (cond (z || y) (record { word = W.bad_ticket; block = b })
           (cond x (move_to L M b (t - 1) (move_at L M b (t - 1)).word (move_at L M b (t - 1)).job) (record { word = W.stuck; block = b })))
       go true p y q x r = no_such_job (inl (eqb-true t 0 p))
       go false p true q x r = no_such_job (inr (ltb-true (length b.jobs) t q))

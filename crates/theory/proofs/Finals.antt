@@ -26,7 +26,7 @@ unchanged_not_final W.step e = cc
 unchanged_not_final W.end e = cc
 unchanged_not_final W.final e = cc
 unchanged_not_final W.wait e = refl
-unchanged_not_final W.badTicket e = refl
+unchanged_not_final W.bad_ticket e = refl
 unchanged_not_final W.stuck e = refl
 
 -- a job becomes final by the word final, and by no other

@@ -20,7 +20,7 @@ final_word_other W.step n = refl
 final_word_other W.end n = refl
 final_word_other W.final n = absurd (n refl)
 final_word_other W.wait n = refl
-final_word_other W.badTicket n = refl
+final_word_other W.bad_ticket n = refl
 final_word_other W.stuck n = refl
 
 module _ (L : Limits) (M : Machine) where

@@ -311,7 +311,7 @@ module _ (L : Limits) (M : Machine) where
   -- ticket t: 14, then 20, then the rules
   unfoldable pub turn : Block S → ℕ → Turned
   turn b t =
-      cond (eqb t 0 || ltb (length b.jobs) t) (record { word = W.badTicket; block = b })
+      cond (eqb t 0 || ltb (length b.jobs) t) (record { word = W.bad_ticket; block = b })
       (cond (block_fits b) (move_to b (t - 1) (move_at b (t - 1)).word (move_at b (t - 1)).job) (record { word = W.stuck; block = b }))
 
   unfoldable pub turns : Block S → List ℕ → Block S

@@ -2,7 +2,7 @@
 use Rattle.std.specs.Prelude.{Bool, true, false, not, List, [], ◌∷◌, ℕ}
 
 pub data Word : Type 0 where
-  idle back step end final wait badTicket stuck : Word
+  idle back step end final wait bad_ticket stuck : Word
 
 -- its text in a session's lines; its byte in a list of turns; document 01's number of a refusal, 0 where the turn was taken; does it change the block?;
 -- what it adds to the number of final jobs
@@ -23,7 +23,7 @@ row_of step = row (115 ∷ 116 ∷ 101 ∷ 112 ∷ []) 2 0 true 0
 row_of end = row (101 ∷ 110 ∷ 100 ∷ []) 3 0 true 0
 row_of final = row (102 ∷ 105 ∷ 110 ∷ 97 ∷ 108 ∷ []) 4 0 true 1
 row_of wait = row (119 ∷ 97 ∷ 105 ∷ 116 ∷ []) 5 0 false 0
-row_of badTicket = row (110 ∷ 111 ∷ 110 ∷ 101 ∷ []) 6 14 false 0
+row_of bad_ticket = row (110 ∷ 111 ∷ 110 ∷ 101 ∷ []) 6 14 false 0
 row_of stuck = row (110 ∷ 111 ∷ 110 ∷ 101 ∷ []) 6 20 false 0
 
 unfoldable pub word_text : Word → List ℕ

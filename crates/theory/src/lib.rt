@@ -1,3 +1,3 @@
 #![tactic(auto)]
 
-// This crate has no code: its definitions and theorems stand in specs/.
+// This crate has no code: its definitions stand in specs/, its theorems in proofs/.

@@ -11,7 +11,7 @@ word_of Step = W.step
 word_of End = W.end
 word_of Final = W.final
 word_of Wait = W.wait
-word_of BadTicket = W.badTicket
+word_of BadTicket = W.bad_ticket
 word_of Stuck = W.stuck
 
 -- 0 for a turn that was taken

@@ -48,7 +48,7 @@ byte_text_lem W.step = refl
 byte_text_lem W.end = refl
 byte_text_lem W.final = refl
 byte_text_lem W.wait = refl
-byte_text_lem W.badTicket = refl
+byte_text_lem W.bad_ticket = refl
 byte_text_lem W.stuck = refl
 
 byte_final : (w : W.Word) → final_byte (byte_of w) ≡ final_word w
@@ -59,7 +59,7 @@ byte_final W.step = refl
 byte_final W.end = refl
 byte_final W.final = refl
 byte_final W.wait = refl
-byte_final W.badTicket = refl
+byte_final W.bad_ticket = refl
 byte_final W.stuck = refl
 
 lines_are : (f : ℕ) (b : E.Block Running) (ts : List ℕ) → E.finals limits box b.jobs ≡ f → byte_lines f ts (bytes b ts) ≡ turn_lines b ts
