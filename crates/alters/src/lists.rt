@@ -9,7 +9,7 @@ use rules::block::Block;
 use std::io;
 use std::io::Write;
 
-fn try_entries<O: Write>(out: &mut O, b: Block) -> io::Result<()> {
+fn try_entry_cells<O: Write>(out: &mut O, b: Block) -> io::Result<()> {
     let full = with_journal(b, 1, 8);
     tell(
         out,
@@ -46,16 +46,18 @@ fn try_entries<O: Write>(out: &mut O, b: Block) -> io::Result<()> {
         b"cell 256 past the journal",
         with_entry_cell(b, 1, 1, 256),
         2,
-    )?;
-    tell(out, b"a journal of 8", full, 2)?;
+    )
+}
+
+fn try_entries<O: Write>(out: &mut O, b: Block) -> io::Result<()> {
+    try_entry_cells(out, b)?;
+    tell(out, b"a journal of 8", with_journal(b, 1, 8), 2)?;
     tell(out, b"a journal of 9", with_journal(b, 1, 9), 2)?;
     tell(out, b"a journal of 255", with_journal(b, 1, 255), 2)
 }
 
-fn try_versions<O: Write>(out: &mut O, b: Block) -> io::Result<()> {
+fn try_version_entries<O: Write>(out: &mut O, b: Block) -> io::Result<()> {
     let full = with_journal(b, 1, 8);
-    let none = with_journal(b, 1, 0);
-    let eight = with_versions(b, 1, 8);
     tell(
         out,
         b"a version of entry 1 of 1",
@@ -73,7 +75,13 @@ fn try_versions<O: Write>(out: &mut O, b: Block) -> io::Result<()> {
         b"a version of entry 8 of 8",
         with_version(full, 1, 0, 8),
         2,
-    )?;
+    )
+}
+
+fn try_versions<O: Write>(out: &mut O, b: Block) -> io::Result<()> {
+    let none = with_journal(b, 1, 0);
+    let eight = with_versions(b, 1, 8);
+    try_version_entries(out, b)?;
     tell(out, b"a version and no entry", none, 2)?;
     tell(
         out,

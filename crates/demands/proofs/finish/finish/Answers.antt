@@ -2,7 +2,6 @@
 -- an accepted paper's turns settle the serial run of its first f jobs.
 use borrow.Author.Rules.{rules}
 use Rattle.demands.proofs.Laws.Finish.{finish_laws}
-use borrow.Author.Rules.{rules}
 use Rattle.demands.proofs.finish.finish.Goals as goal
 
 pub returns-then-table : goal.returns-then-table

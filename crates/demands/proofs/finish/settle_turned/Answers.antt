@@ -2,7 +2,6 @@
 -- the block still fits, so its table is settled.
 use borrow.Author.Rules.{rules}
 use Rattle.demands.proofs.Laws.Finish.{settle_laws}
-use borrow.Author.Rules.{rules}
 use Rattle.demands.proofs.finish.settle_turned.Goals as goal
 
 pub returns-in_default : goal.returns-in_default

@@ -1,8 +1,7 @@
 -- The end is tested first, and its fault returns at once;
 -- the heights may take for granted what the earlier checks found.
-use Rattle.machine.proofs.Laws.Tests.{passed}
+use Rattle.machine.proofs.Laws.Tests.{passed, test_laws}
 use Rattle.std.proofs.Common.{rules}
-use Rattle.machine.proofs.Laws.Tests.{test_laws}
 use Rattle.machine.proofs.Laws.Verdict.{flow_laws}
 use Rattle.machine.proofs.verdict.check_flow.Goals as goal
 

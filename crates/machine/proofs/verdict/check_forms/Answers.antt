@@ -1,8 +1,7 @@
 -- Up to p nothing was found, and the counts are those of the places before p;
 -- what is found from p on is the answer from the start.
 use Rattle.std.proofs.Common.{rules}
-use Rattle.machine.proofs.Laws.Verdict.{count_on, count_few, forms_on}
-use Rattle.machine.proofs.Laws.Verdict.{forms_laws}
+use Rattle.machine.proofs.Laws.Verdict.{count_on, count_few, forms_on, forms_laws}
 use Rattle.machine.proofs.verdict.check_forms.Goals as goal
 
 pub loop-p-init : goal.loop-p-init

@@ -2,8 +2,7 @@
 -- what is found from p on is the answer from the start.
 use Rattle.std.proofs.Common.{rules}
 use Rattle.machine.proofs.Laws.Tests.{passed}
-use Rattle.machine.proofs.Laws.Verdict.{brought_on, heights_on, fitting_at}
-use Rattle.machine.proofs.Laws.Verdict.{heights_laws}
+use Rattle.machine.proofs.Laws.Verdict.{brought_on, heights_on, fitting_at, heights_laws}
 use Rattle.machine.proofs.verdict.check_heights.Goals as goal
 
 pub loop-p-init : goal.loop-p-init

@@ -1,10 +1,8 @@
 -- The checks stand in the definition's order,
 -- and the first fault found returns at once.
-use Rattle.machine.proofs.Laws.Tests.{passed}
-use Rattle.machine.proofs.Laws.Verdict.{none_less, job_flow}
+use Rattle.machine.proofs.Laws.Tests.{passed, test_laws}
+use Rattle.machine.proofs.Laws.Verdict.{none_less, job_flow, job_laws}
 use Rattle.std.proofs.Common.{rules}
-use Rattle.machine.proofs.Laws.Tests.{test_laws}
-use Rattle.machine.proofs.Laws.Verdict.{job_laws}
 use Rattle.machine.proofs.verdict.check_job.Goals as goal
 
 pub returns-then-size-eq0 : goal.returns-then-size-eq0

@@ -2,7 +2,6 @@
 -- and no longer than a session may have it.
 use borrow.Author.Rules.{rules}
 use Rattle.sessions.proofs.Laws.Fields.{turns_laws}
-use borrow.Author.Rules.{rules}
 use Rattle.sessions.proofs.fields.ends_in_turns.Goals as goal
 
 pub returns-then-not-is_field : goal.returns-then-not-is_field

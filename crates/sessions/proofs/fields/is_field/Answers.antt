@@ -2,7 +2,6 @@
 -- room for a head, room for the contents, the tag.
 use borrow.Author.Rules.{rules}
 use Rattle.sessions.proofs.Laws.Fields.{field_laws}
-use borrow.Author.Rules.{rules}
 use Rattle.sessions.proofs.fields.is_field.Goals as goal
 
 pub returns-then-left-lt-HEAD : goal.returns-then-left-lt-HEAD

@@ -2,7 +2,6 @@
 -- and the rest is the field of tickets or the session is in breach.
 use borrow.Author.Rules.{rules}
 use Rattle.sessions.proofs.Laws.Fields.{parts_laws}
-use borrow.Author.Rules.{rules}
 use Rattle.sessions.proofs.fields.parts_from.Goals as goal
 
 pub ends_in_turns-requires : goal.ends_in_turns-requires

@@ -2,7 +2,6 @@
 -- else the parts after the cells are the session's.
 use borrow.Author.Rules.{rules}
 use Rattle.sessions.proofs.Laws.Fields.{session_laws}
-use borrow.Author.Rules.{rules}
 use Rattle.sessions.proofs.fields.session_parts.Goals as goal
 
 pub returns-then-input-gt-BYTES : goal.returns-then-input-gt-BYTES

@@ -2,7 +2,6 @@
 -- low byte first.
 use borrow.Author.Rules.{rules}
 use Rattle.machine.proofs.Laws.Paper.{size_is}
-use borrow.Author.Rules.{rules}
 use Rattle.sessions.proofs.fields.size_at.Goals as goal
 
 pub returns : goal.returns

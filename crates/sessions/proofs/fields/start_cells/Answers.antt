@@ -2,7 +2,6 @@
 -- in which every cell is 0.
 use borrow.Author.Rules.{rules}
 use Rattle.sessions.proofs.Laws.Fields.{start_zeros}
-use borrow.Author.Rules.{rules}
 use Rattle.sessions.proofs.fields.start_cells.Goals as goal
 
 pub returns : goal.returns

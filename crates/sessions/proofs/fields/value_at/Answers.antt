@@ -2,7 +2,6 @@
 -- low byte first.
 use borrow.Author.Rules.{rules}
 use Rattle.sessions.proofs.Laws.Fields.{value_is}
-use borrow.Author.Rules.{rules}
 use Rattle.sessions.proofs.fields.value_at.Goals as goal
 
 pub returns : goal.returns

@@ -2,7 +2,6 @@
 -- and any other prints its refusal.
 use borrow.Author.Rules.{rules}
 use Rattle.sessions.proofs.Laws.Play.{opened_laws}
-use borrow.Author.Rules.{rules}
 use Rattle.sessions.proofs.play.put_opened.Goals as goal
 
 pub returns-in-Accepted : goal.returns-in-Accepted

@@ -2,7 +2,6 @@
 -- and the cells that are put are those.
 use borrow.Author.Rules.{rules}
 use Rattle.sessions.proofs.Laws.Play.{settled_put}
-use borrow.Author.Rules.{rules}
 use Rattle.sessions.proofs.play.put_settled.Goals as goal
 
 pub returns : goal.returns

@@ -2,7 +2,6 @@
 -- the block still fits, so the settled cells follow.
 use borrow.Author.Rules.{rules}
 use Rattle.sessions.proofs.Laws.Play.{turned_laws}
-use borrow.Author.Rules.{rules}
 use Rattle.sessions.proofs.play.put_turned.Goals as goal
 
 pub put_settled-requires : goal.put_settled-requires

@@ -2,7 +2,6 @@
 -- or nowhere if the buffer is full.
 use borrow.Author.Rules.{rules}
 use Rattle.sessions.proofs.Laws.Text.{put_laws}
-use borrow.Author.Rules.{rules}
 use Rattle.sessions.proofs.text.put.Goals as goal
 
 pub returns-then-at-out : goal.returns-then-at-out

@@ -2,7 +2,6 @@
 -- any other line is its pieces, each where the last one ended.
 use borrow.Author.Rules.{rules}
 use Rattle.sessions.proofs.Laws.Text.{cell_line_laws}
-use borrow.Author.Rules.{rules}
 use Rattle.sessions.proofs.text.put_cell.Goals as goal
 
 pub returns-then-value-eq0 : goal.returns-then-value-eq0

@@ -2,7 +2,6 @@
 -- each where the last one ended.
 use borrow.Author.Rules.{rules}
 use Rattle.sessions.proofs.Laws.Text.{refused_laws}
-use borrow.Author.Rules.{rules}
 use Rattle.sessions.proofs.text.put_refusal.Goals as goal
 
 pub returns : goal.returns

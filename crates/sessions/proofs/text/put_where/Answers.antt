@@ -2,7 +2,6 @@
 -- where it ended.
 use borrow.Author.Rules.{rules}
 use Rattle.sessions.proofs.Laws.Text.{where_laws}
-use borrow.Author.Rules.{rules}
 use Rattle.sessions.proofs.text.put_where.Goals as goal
 
 pub returns : goal.returns

@@ -2,7 +2,6 @@
 -- and every other stands for none.
 use borrow.Author.Rules.{rules}
 use Rattle.sessions.proofs.Laws.Text.{word_laws}
-use borrow.Author.Rules.{rules}
 use Rattle.sessions.proofs.text.put_word.Goals as goal
 
 pub returns-in-0 : goal.returns-in-0
