@@ -1,7 +1,6 @@
 -- What a block in work that fits its sizes offers: each count within its array, and each name within what it names.
-use Rattle.std.specs.Prelude.{◌≡◌, refl, ◌⊎◌, Bool, true, false, cond, ◌&&◌, eqb, leb, ltb, get_or}
+use Rattle.std.specs.Prelude.{◌≡◌, refl, ◌⊎◌, Bool, true, false, cond, ◌&&◌, eqb, leb, ltb, get_or, None, Some}
 use Rattle.std.proofs.Common.{sym, ◌∙◌, inl, inr, arith}
-use Rattle.std.proofs.Math.Option.{none, some}
 use Prim.Native.Nat.{ℕ, zero, suc, ◌+◌, ◌*◌, ◌≤◌, ◌<◌}
 use Rattle.std.proofs.Math.Decide.{ℕ_discrete, dec_lt}
 use borrow.Author.Tests.{leb-true, ltb-true, eqb-true}
@@ -54,7 +53,7 @@ mark_within_lem : (m n : ℕ) → mark_within m n ≡ true → (m ≡ 255) ⊎ (
 unfolding mark_within mark_of
 mark_within_lem m n = go (eqb m 255) refl
   where
-    go : (t : Bool) → eqb m 255 ≡ t → E.mark_fits (cond t none (some m)) n ≡ true → (m ≡ 255) ⊎ (m < n)
+    go : (t : Bool) → eqb m 255 ≡ t → E.mark_fits (cond t None (Some m)) n ≡ true → (m ≡ 255) ⊎ (m < n)
     go true q e = inl (eqb-true _ _ q)
     go false q e = inr (ltb-true _ _ e)
 

@@ -1,6 +1,5 @@
 -- Marking on the code's own structs: which read is struck, the mark after, and the sweep over the higher jobs.
-use Rattle.std.specs.Prelude.{Bool, cond, List, ℕ, zero, suc, ◌≤◌, ◌<◌, get_or, set}
-use Rattle.std.proofs.Math.Option.{Option, none, some}
+use Rattle.std.specs.Prelude.{Bool, cond, List, ℕ, zero, suc, ◌≤◌, ◌<◌, get_or, set, Option, None, Some}
 use Rattle.theory.specs.Engine.{shown_at, struck, earlier}
 use Rattle.rules.specs.View.{journal_of, versions_of, Showing, mark_of, mark_byte, no_read, no_reads}
 use Rattle.rules.specs.declared.block.Read.{Read}
@@ -18,8 +17,8 @@ struck_by old new t r = struck (shown_in old r.cell.0) (shown_in new r.cell.0) t
 
 -- the first of m places from k on that passes a test
 unfoldable pub first_from : (ℕ → Bool) → ℕ → ℕ → Option ℕ
-first_from f k zero = none
-first_from f k (suc m) = cond (f k) (some k) (first_from f (suc k) m)
+first_from f k zero = None
+first_from f k (suc m) = cond (f k) (Some k) (first_from f (suc k) m)
 
 abbrev pub strikes_at : Shows → Shows → ℕ → Reads → ℕ → Bool
 strikes_at old new t rs k = struck_by old new t (get_or rs.reads k no_read)

@@ -1,6 +1,5 @@
 -- One turn on the code's block: the words, what a move does, and the plain moves of the job at an index.
-use Rattle.std.specs.Prelude.{◌≡◌, Bool, true, cond, ◌&&◌, ◌||◌, List, ℕ, zero, suc, ◌+◌, ◌*◌, ◌≤◌, ◌<◌, eqb, leb, ltb, length, get_or}
-use Rattle.std.proofs.Math.Option.{Option, none, some}
+use Rattle.std.specs.Prelude.{◌≡◌, Bool, true, cond, ◌&&◌, ◌||◌, List, ℕ, zero, suc, ◌+◌, ◌*◌, ◌≤◌, ◌<◌, eqb, leb, ltb, length, get_or, Option, None, Some}
 use Rattle.theory.specs.Word as W
 unfoldable pub use Rattle.theory.specs.Word.{leaves}
 unfoldable pub use Rattle.words.specs.Words.{word_of}
@@ -25,8 +24,8 @@ use Rattle.rules.specs.declared.block.Turned.{Turned}
 
 -- the value of a listed read of a cell, from place k on for m reads
 unfoldable pub listed_from : Reads → ℕ → ℕ → ℕ → Option ℕ
-listed_from r c k zero = none
-listed_from r c k (suc m) = cond (eqb (get_or r.reads k no_read).cell.0 c) (some (get_or r.reads k no_read).value) (listed_from r c (suc k) m)
+listed_from r c k zero = None
+listed_from r c k (suc m) = cond (eqb (get_or r.reads k no_read).cell.0 c) (Some (get_or r.reads k no_read).value) (listed_from r c (suc k) m)
 
 abbrev pub listed_in : Reads → ℕ → Option ℕ
 listed_in r c = listed_from r c 0 r.size
@@ -44,7 +43,7 @@ abbrev pub cells : Block → ℕ → ℕ
 cells b = E.cell_at limits box (block_of b)
 
 unfoldable pub outside : Block → ℕ → ℕ → E.Moved Running
-outside b i c = E.read_step FEW box (cells b) (job_of b i) c none none (E.find (cells b) (jobs b) c i)
+outside b i c = E.read_step FEW box (cells b) (job_of b i) c None None (E.find (cells b) (jobs b) c i)
 
 unfoldable pub reading : Block → ℕ → ℕ → E.Moved Running
 reading b i c = E.instructed FEW box (cells b) (jobs b) i (job_of b i) (read c)

@@ -1,7 +1,6 @@
 -- What the structs of a block in work stand for. A count and an array stand for the list of the array's first entries; a count past the
 -- array's end shows in the list's length. Entries past a count stand for nothing.
-use Rattle.std.specs.Prelude.{◌≡◌, refl, cond, List, [], ◌∷◌, ℕ, suc, ◌≤◌, ◌<◌, eqb, ltb, length, get_or, drop, replicate}
-use Rattle.std.proofs.Math.Option.{Option, none, some}
+use Rattle.std.specs.Prelude.{◌≡◌, refl, cond, List, [], ◌∷◌, ℕ, suc, ◌≤◌, ◌<◌, eqb, ltb, length, get_or, drop, replicate, Option, None, Some}
 use Rattle.std.proofs.Common.{lt-ltb, le-ltb}
 use Rattle.theory.specs.Lists.{tab, length_tab}
 use Rattle.theory.specs.Engine as E
@@ -51,8 +50,8 @@ unfoldable pub versions_of : Versions → List ℕ
 versions_of v = tab v.size (number_at v)
 
 unfoldable pub found_of : Found → Option ℕ
-found_of (At k) = some k
-found_of Nowhere = none
+found_of (At k) = Some k
+found_of Nowhere = None
 
 abbrev pub no_journal : Journal
 no_journal = record { entries = []; size = 0 }
@@ -79,8 +78,8 @@ unfoldable pub found_in : List Journal → List Versions → ℕ → ℕ → ℕ
 found_in js vs start c n = E.search start (λ k. version_at js vs k c) n
 
 unfoldable pub value_of : Shown → Option ℕ
-value_of (Value v) = some v
-value_of Nothing = none
+value_of (Value v) = Some v
+value_of Nothing = None
 
 unfoldable pub version_of : Version → ℕ × ℕ
 version_of v = (v.source.0, v.value)
@@ -95,11 +94,11 @@ kept_one n v = cond (ltb v n) (v ∷ []) []
 
 -- ---- marks
 unfoldable pub mark_of : ℕ → Option ℕ
-mark_of m = cond (eqb m 255) none (some m)
+mark_of m = cond (eqb m 255) None (Some m)
 
 unfoldable pub mark_byte : Option ℕ → ℕ
-mark_byte none = 255
-mark_byte (some m) = m
+mark_byte None = 255
+mark_byte (Some m) = m
 
 abbrev pub no_read : Read
 no_read = record { cell = record { 0 = 0 }; source = record { 0 = 0 }; value = 0 }

@@ -1,6 +1,5 @@
 // Marking the higher jobs where a job's public versions changed.
-ghost use Rattle.std.specs.Prelude.{◌≡◌, ◌-◌, ◌≤◌, ◌<◌};
-ghost use Rattle.std.proofs.Math.Option.{some};
+ghost use Rattle.std.specs.Prelude.{◌≡◌, ◌-◌, ◌≤◌, ◌<◌, Some};
 ghost use Rattle.theory.specs.Engine.{struck, earlier};
 ghost use Rattle.rules.specs.View.{found_of, mark_of, mark_byte};
 ghost use Rattle.rules.specs.Marks.{Shown, struck_by, mark_by, mark_reads, sweep, ListsFit};
@@ -54,7 +53,7 @@ fn strikes(r: Read, old: Shows, new: Shows, t: Ticket) -> bool
 // Of two marks the earlier.
 fn earlier_of(k: u8, mark: u8) -> u8
     requires { k < 8 }
-    ensures { result ≡ mark_byte (earlier (some k) (mark_of mark)) }
+    ensures { result ≡ mark_byte (earlier (Some k) (mark_of mark)) }
 {
     if k < mark {
         return k;

@@ -1,10 +1,9 @@
 -- A turn of a block is a change of one job, or none; so the invariant holds of every block that an opening and turns gave.
 -- A block's jobs are a list, and an index past its end holds a fresh job that nothing marks: so the list behaves as a function of the index.
-use Rattle.std.specs.Prelude.{◌≡◌, ◌⊎◌, Bool, cond, ◌||◌, ℕ, suc, ◌+◌, ◌-◌, ◌<◌, length, take, drop, get_or}
+use Rattle.std.specs.Prelude.{◌≡◌, ◌⊎◌, Bool, cond, ◌||◌, ℕ, suc, ◌+◌, ◌-◌, ◌<◌, length, take, drop, get_or, Option}
 use Rattle.std.proofs.Math.Path.{refl, fun_ext}
 use Rattle.std.proofs.Common.{sym, ap, ◌∙◌, subst₂, inl, inr, arith, length-append, length-drop, length-take-le, get_or-take, get_or-drop, get_or-append-add}
 use Rattle.std.proofs.Math.Bool.{true, false}
-use Rattle.std.proofs.Math.Option.{Option}
 use mathlib.Core.List.{List, [], ◌∷◌, ◌++◌, map}
 use Rattle.std.proofs.Math.Decide.{ℕ_discrete, dec_lt}
 use borrow.Author.Tests.{eqb-true, eqb-false, ltb-true, ltb-false}

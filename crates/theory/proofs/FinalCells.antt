@@ -1,9 +1,8 @@
 -- The values that the first f jobs leave, all of them final, are those of their serial run. By induction on f: a final job is unmarked, so its reads are what the
 -- search finds below it, which is the table that the jobs before it left; its run on those values is its run alone, and it shows what that run writes.
-use Rattle.std.specs.Prelude.{◌≡◌, true}
+use Rattle.std.specs.Prelude.{◌≡◌, true, Option, None, Some, unwrap_or}
 use Rattle.std.proofs.Math.Path.{refl, ap, fun_ext}
 use Rattle.std.proofs.Common.{sym, ◌∙◌, inl, inr, arith}
-use Rattle.std.proofs.Math.Option.{Option, none, some, get_or}
 use Prim.Native.Nat.{ℕ, zero, suc}
 use Rattle.theory.specs.Promise.{Machine, Promise}
 use Rattle.theory.specs.Engine.{Job, final, found, search, version, find, all_final}
@@ -13,9 +12,9 @@ use Rattle.theory.proofs.Runs.{Agrees, alone_stop, alone_abandon}
 use Rattle.theory.proofs.Invariant.{Fresh, Stands, Good, Invariant, all_final_at, all_final_of}
 use Rattle.theory.proofs.Moves.{running≢final}
 
-found_value : (o : Option ℕ) (k : ℕ) (lower : ℕ × ℕ) → (found o k lower).1 ≡ get_or o lower.1
-found_value none k lower = refl
-found_value (some v) k lower = refl
+found_value : (o : Option ℕ) (k : ℕ) (lower : ℕ × ℕ) → (found o k lower).1 ≡ unwrap_or o lower.1
+found_value None k lower = refl
+found_value (Some v) k lower = refl
 
 module _ (M : Machine) (cells : ℕ) (P : Promise cells M) (table : ℕ → ℕ) (start : ℕ → M.S) (st : ℕ → Job M.S) (inv : Invariant M table start st) where
   open M use {S}

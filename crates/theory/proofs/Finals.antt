@@ -1,16 +1,14 @@
 -- f, the number of final jobs. Only a turn whose word is final makes a job final, and it makes one; and a job is final only after all lower ones,
 -- so the final jobs are the first f.
-use Rattle.std.specs.Prelude.{◌≡◌, refl, ◌≢◌, ◌↔◌, Bool, true, false, cond, ℕ, zero, suc, ◌+◌, ◌<◌, ltb, length, take, drop, get_or}
+use Rattle.std.specs.Prelude.{◌≡◌, refl, ◌≢◌, ◌↔◌, Bool, true, false, cond, ℕ, zero, suc, ◌+◌, ◌<◌, ltb, length, take, drop, get_or, Option, None, Some}
 use Rattle.std.proofs.Common.{sym, ap, ◌∙◌}
-use Rattle.std.proofs.Math.Option.{Option, none, some}
 use mathlib.Core.List.{List, [], ◌∷◌, ◌++◌, map}
 use native.Mathlib.Omega.{arith}
 use Rattle.std.proofs.Math.Seq.{split_at}
 use Rattle.theory.specs.Word as W
 use Rattle.theory.specs.Word.{final_word}
 use Rattle.theory.specs.Promise.{Act, nothing, read, write, stop, abandon, stuck, Machine}
-use Rattle.theory.specs.Engine.{Job, Block, Limits, Status, running, ended, final, is_final, shown, find, mark_job, all_final, last_value, listed_value}
-use Rattle.theory.specs.Engine.{settle, moved, read_step, instructed, ruled, move, job_at, nobody, cell_at, Turned, move_at, turn, turns, finals}
+use Rattle.theory.specs.Engine.{Job, Block, Limits, Status, running, ended, final, is_final, shown, find, mark_job, all_final, last_value, listed_value, settle, moved, read_step, instructed, ruled, move, job_at, nobody, cell_at, Turned, move_at, turn, turns, finals}
 use Rattle.theory.specs.Histories.{final_turns}
 use Rattle.theory.proofs.Invariant.{is_final_true, all_final_at, all_final_of}
 use Rattle.theory.proofs.Moves.{running≢final}
@@ -45,9 +43,9 @@ move_final few M table st i = go (st i).status refl (st i).mark
 
     reads : (c : ℕ) (o o' : Option ℕ) → b.status ≡ running →
         one (is_final (read_step few M table b c o o' (find table st c i)).job.status) ≡ final_word (read_step few M table b c o o' (find table st c i)).word
-    reads c (some v) o' e = rw e refl
-    reads c none (some v) e = rw e refl
-    reads c none none e = room (ltb (length b.reads) few) _ e e
+    reads c (Some v) o' e = rw e refl
+    reads c None (Some v) e = rw e refl
+    reads c None None e = room (ltb (length b.reads) few) _ e e
 
     acts : (a : Act M.S) → b.status ≡ running → one (is_final (instructed few M table st i b a).job.status) ≡ final_word (instructed few M table st i b a).word
     acts (nothing s) e = rw e refl
@@ -59,10 +57,10 @@ move_final few M table st i = go (st i).status refl (st i).mark
 
     go : (s : Status) → b.status ≡ s → (o : Option ℕ) → one (is_final (ruled few M table st i b s o).job.status) ≡ one (is_final s) + final_word (ruled few M table st i b s o).word
     go final e o = rw e refl
-    go running e (some m) = refl
-    go running e none = omega (arith, acts (M.act b.state) e)
-    go ended e (some m) = refl
-    go ended e none = at (all_final st i)
+    go running e (Some m) = refl
+    go running e None = omega (arith, acts (M.act b.state) e)
+    go ended e (Some m) = refl
+    go ended e None = at (all_final st i)
       where
         at : (t : Bool) → one (is_final (cond t (moved W.final (settle b)) (moved W.wait b)).job.status) ≡ 0 + final_word (cond t (moved W.final (settle b)) (moved W.wait b)).word
         at true = refl

@@ -1,8 +1,7 @@
 -- Document 01, "Follows, and is to be proved": a job's state and journal are those of a run from its start on the values in its list of reads, marked or not,
 -- however often it went back. The invariant has such a run; a READ of it that lists a read finds its value in the list from then on.
-use Rattle.std.specs.Prelude.{◌≡◌, refl, Bool, ℕ, suc, eqb, get_or}
+use Rattle.std.specs.Prelude.{◌≡◌, refl, Bool, ℕ, suc, eqb, get_or, None, Some}
 use Rattle.std.proofs.Math.Bool.{true, false, cond}
-use Rattle.std.proofs.Math.Option.{none, some}
 use mathlib.Core.List.{List, [], ◌∷◌, ◌++◌}
 use Rattle.std.proofs.Common.{eq-eqb}
 use Rattle.theory.specs.Promise.{Machine}
@@ -16,29 +15,29 @@ module _ (M : Machine) where
 
   -- ---- a list with the same values and perhaps more
   Holds : List (Read S) → List (Read S) → Type 0
-  Holds rs more = (c v : ℕ) → listed_value rs c ≡ some v → listed_value more c ≡ some v
+  Holds rs more = (c v : ℕ) → listed_value rs c ≡ Some v → listed_value more c ≡ Some v
 
   listed_left : (rs : List (Read S)) (r : Read S) → Holds rs (rs ++ (r ∷ []))
   unfolding Holds
   listed_left [] r c v e = cc
   listed_left (x ∷ rs) r c v e = go (eqb x.cell c) e (listed_left rs r c v)
     where
-      go : (t : Bool) → cond t (some x.value) (listed_value rs c) ≡ some v → (listed_value rs c ≡ some v → listed_value (rs ++ (r ∷ [])) c ≡ some v) →
-          cond t (some x.value) (listed_value (rs ++ (r ∷ [])) c) ≡ some v
+      go : (t : Bool) → cond t (Some x.value) (listed_value rs c) ≡ Some v → (listed_value rs c ≡ Some v → listed_value (rs ++ (r ∷ [])) c ≡ Some v) →
+          cond t (Some x.value) (listed_value (rs ++ (r ∷ [])) c) ≡ Some v
       go true e ih = e
       go false e ih = ih e
 
-  listed_last : (rs : List (Read S)) (r : Read S) → listed_value rs r.cell ≡ none → listed_value (rs ++ (r ∷ [])) r.cell ≡ some r.value
+  listed_last : (rs : List (Read S)) (r : Read S) → listed_value rs r.cell ≡ None → listed_value (rs ++ (r ∷ [])) r.cell ≡ Some r.value
   listed_last [] r e = rw (eq-eqb r.cell r.cell refl) refl
   listed_last (x ∷ rs) r e = go (eqb x.cell r.cell) e (listed_last rs r)
     where
-      go : (t : Bool) → cond t (some x.value) (listed_value rs r.cell) ≡ none → (listed_value rs r.cell ≡ none → listed_value (rs ++ (r ∷ [])) r.cell ≡ some r.value) →
-          cond t (some x.value) (listed_value (rs ++ (r ∷ [])) r.cell) ≡ some r.value
+      go : (t : Bool) → cond t (Some x.value) (listed_value rs r.cell) ≡ None → (listed_value rs r.cell ≡ None → listed_value (rs ++ (r ∷ [])) r.cell ≡ Some r.value) →
+          cond t (Some x.value) (listed_value (rs ++ (r ∷ [])) r.cell) ≡ Some r.value
       go true e ih = cc
       go false e ih = ih e
 
   -- a job's run, on any list that has its reads' values
-  runs_on : {s₀ s : S} {rs : List (Read S)} {j : List Entry} → Ran M s₀ rs j s → (more : List (Read S)) → Holds rs more → (n : ℕ) × (run_on M more s₀ n ≡ some (at M s j))
+  runs_on : {s₀ s : S} {rs : List (Read S)} {j : List Entry} → Ran M s₀ rs j s → (more : List (Read S)) → Holds rs more → (n : ℕ) × (run_on M more s₀ n ≡ Some (at M s j))
   unfolding run_on Holds
   runs_on begin more h = (0, refl)
   runs_on (by_nothing p e) more h = let x = runs_on p more h in (suc x.0, rw (x.1, e) refl)
@@ -52,5 +51,5 @@ module _ (M : Machine) where
 -- after any list of turns
 pub follows : (L : Limits) (M : Machine) (table : List ℕ) (starts : List M.S) (ts : List ℕ) (i : ℕ) →
     let b = job_at L M (turns L M (opened L M table starts) ts) i in
-    (n : ℕ) × (run_on M b.reads (get_or starts i M.nowhere) n ≡ some (record { state = b.state; journal = b.journal }))
+    (n : ℕ) × (run_on M b.reads (get_or starts i M.nowhere) n ≡ Some (record { state = b.state; journal = b.journal }))
 follows L M table starts ts i = unfold Holds in runs_on M ((reached_sound L M table starts ts).invariant i).ran _ (λ c v e. e)

@@ -1,16 +1,14 @@
 -- The invariant, and that a change of one job keeps it for the whole block if it is right for that job itself. A read before its job's mark is what the search
 -- finds now: where a change could alter what a search finds, the read has a source that the change strikes, and so the job is marked there or earlier.
-use Rattle.std.specs.Prelude.{◌≡◌, ◌≢◌, ◌⊎◌, Bool, true, false, cond, eqb, leb, ltb, length}
+use Rattle.std.specs.Prelude.{◌≡◌, ◌≢◌, ◌⊎◌, Bool, true, false, cond, eqb, leb, ltb, length, Option, None, Some}
 use Rattle.std.proofs.Math.Path.{refl}
 use Rattle.std.proofs.Common.{ap, ◌∙◌, inl, inr, arith}
 use Rattle.std.proofs.Math.Bool.{and-eq-true_iff}
-use Rattle.std.proofs.Math.Option.{Option, none, some}
 use Prim.Native.Nat.{ℕ, zero, suc, ◌≤◌, ◌<◌}
 use Rattle.std.proofs.Math.Decide.{ℕ_discrete, dec_lt}
 use borrow.Author.Tests.{eqb-true, eqb-false, eq-eqb, ne_eqb, lt-ltb, le-ltb, leb-false}
 use Rattle.theory.specs.Promise.{stop, abandon, Machine}
-use Rattle.theory.specs.Engine.{Read, Job, Status, running, ended, final, last_at, value_at, struck, earlier}
-use Rattle.theory.specs.Engine.{is_final, shown, version, find, is_struck, first_struck, mark_job, all_final, mark_fits}
+use Rattle.theory.specs.Engine.{Read, Job, Status, running, ended, final, last_at, value_at, struck, earlier, is_final, shown, version, find, is_struck, first_struck, mark_job, all_final, mark_fits}
 use Rattle.theory.specs.Every.{Every, every_imp, every_both}
 use Rattle.theory.proofs.Versions.{Below, search_has, search_same, search_change}
 use Rattle.theory.proofs.Runs.{Ran}
@@ -80,7 +78,7 @@ module _ (M : Machine) (table : ℕ → ℕ) (start : ℕ → M.S) where
 
   -- an ended job stands at STOP and shows the last entry of each cell, or at ABANDON and shows none
   abbrev pub Stands : Job S → Type 0
-  Stands b = ((act b.state ≡ stop) × ((c : ℕ) → shown b c ≡ last_at b.journal c)) ⊎ ((act b.state ≡ abandon) × ((c : ℕ) → shown b c ≡ none))
+  Stands b = ((act b.state ≡ stop) × ((c : ℕ) → shown b c ≡ last_at b.journal c)) ⊎ ((act b.state ≡ abandon) × ((c : ℕ) → shown b c ≡ None))
 
   -- the job b at index k is right in the block st
   pub record Good (st : ℕ → Job S) (k : ℕ) (b : Job S) : Type 0 where
@@ -89,7 +87,7 @@ module _ (M : Machine) (table : ℕ → ℕ) (start : ℕ → M.S) where
     pub marked : mark_fits b.mark (length b.reads) ≡ true
     pub held : Below (length b.journal) b.versions
     pub stands : b.status ≢ running → Stands b
-    pub settled : b.status ≡ final → (b.mark ≡ none) × (all_final st k ≡ true)
+    pub settled : b.status ≡ final → (b.mark ≡ None) × (all_final st k ≡ true)
 
   abbrev pub Invariant : (ℕ → Job S) → Type 0
   Invariant st = (k : ℕ) → Good st k (st k)
@@ -125,13 +123,13 @@ module _ (M : Machine) (table : ℕ → ℕ) (start : ℕ → M.S) where
       where
         go : (o o' : Option ℕ) → shown (st i) c ≡ o → shown b c ≡ o' → struck o o' (suc i) s ≡ false →
             (version (change st i b i) c ≡ version (st i) c) ⊎ (suc i < (find table st c k).0)
-        go none none x y t = inl (rw (change_at st i b) (mv.same_value c (cc)))
-        go none (some a) x y t = inr (rw e (leb-false s (suc i) t))
-        go (some a) none x y t =
+        go None None x y t = inl (rw (change_at st i b) (mv.same_value c (cc)))
+        go None (Some a) x y t = inr (rw e (leb-false s (suc i) t))
+        go (Some a) None x y t =
             let n : s ≢ suc i = eqb-false s (suc i) t in
             let l = rw e at (search_has (table c) (λ j. version (st j) c) i _ (ap (value_at (st i).journal) x) k h) in
             inr (rw e (omega arith))
-        go (some a) (some a') x y t = at (eqb a a') refl t
+        go (Some a) (Some a') x y t = at (eqb a a') refl t
           where
             at : (z : Bool) → eqb a a' ≡ z → cond z false (leb s (suc i)) ≡ false → (version (change st i b i) c ≡ version (st i) c) ⊎ (suc i < (find table st c k).0)
             at true w t = let a≡ : a ≡ a' = eqb-true a a' w in inl (rw (change_at st i b) (mv.same_value c (cc)))

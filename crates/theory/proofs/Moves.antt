@@ -1,15 +1,13 @@
 -- Each move of a job is right for the job itself: a step goes on with its run, an end shows what it should, going back is an earlier run with the reads before
 -- the mark, and final is reached unmarked with all lower jobs final. A word that changes nothing leaves the job as it was.
-use Rattle.std.specs.Prelude.{◌≡◌, ◌≢◌, Bool, cond, List, [], ◌∷◌, ◌++◌, ℕ, ltb, length, take}
+use Rattle.std.specs.Prelude.{◌≡◌, ◌≢◌, Bool, cond, List, [], ◌∷◌, ◌++◌, ℕ, ltb, length, take, Option, None, Some}
 use Rattle.std.proofs.Math.Path.{refl, ap}
 use Rattle.std.proofs.Common.{sym, ◌∙◌, inl, inr, arith, ltb-true, length-take-le}
 use Rattle.std.proofs.Math.Bool.{true, false}
-use Rattle.std.proofs.Math.Option.{Option, none, some}
 use Rattle.std.proofs.Math.ListN.{length-append}
 use Rattle.theory.specs.Word as W
 use Rattle.theory.specs.Promise.{Act, nothing, read, write, stop, abandon, stuck, Machine}
-use Rattle.theory.specs.Engine.{Entry, Read, Checkpoint, Job, Status, running, ended, final, last_value, listed_value, value_at, shown, find, withdrawn, published}
-use Rattle.theory.specs.Engine.{all_final, go_back, step_to, write_to, list_to, end_with, settle, moved, here, checkpoint_at, listing, read_step, instructed, ruled, move}
+use Rattle.theory.specs.Engine.{Entry, Read, Checkpoint, Job, Status, running, ended, final, last_value, listed_value, value_at, shown, find, withdrawn, published, all_final, go_back, step_to, write_to, list_to, end_with, settle, moved, here, checkpoint_at, listing, read_step, instructed, ruled, move}
 use Rattle.theory.specs.Every.{Every, every_append}
 use Rattle.theory.proofs.Versions.{Below, below_le, withdrawn_below, published_below, shown_below, shown_append, value_append, value_take, shown_published}
 use Rattle.theory.proofs.Runs.{Ran, by_nothing, by_write, by_own, by_listed, by_found, Earlier, ran_earlier}
@@ -35,12 +33,12 @@ module _ (few : ℕ) (M : Machine) (table : ℕ → ℕ) where
     still = record { good = g; same_value = λ c e. refl; once_final = λ e. refl }
 
     -- a job that is running and unmarked after its move
-    goes_on : (d : Job S) → d.status ≡ running → d.mark ≡ none → Ran M (start i) d.reads d.journal d.state → Every (Fresh M table start st i) d.reads →
+    goes_on : (d : Job S) → d.status ≡ running → d.mark ≡ None → Ran M (start i) d.reads d.journal d.state → Every (Fresh M table start st i) d.reads →
         Below (length d.journal) d.versions → Good M table start st i d
     goes_on d e m ran fr h = record { ran = ran; fresh = rw m fr; marked = rw m refl; held = h; stands = λ n. absurd (n e); settled = λ q. absurd (running≢final (sym e ∙ q)) }
 
     -- 2. back
-    goes_back : b.status ≢ final → (m : ℕ) → b.mark ≡ some m → Right (go_back b (checkpoint_at b m))
+    goes_back : b.status ≢ final → (m : ℕ) → b.mark ≡ Some m → Right (go_back b (checkpoint_at b m))
     unfolding shown
     goes_back n m e = go (checkpoint_at b m) (ran_earlier M g.ran m (here b) (ltb-true m (length b.reads) (rw e at g.marked)))
       where
@@ -56,7 +54,7 @@ module _ (few : ℕ) (M : Machine) (table : ℕ → ℕ) where
           once_final = λ q. absurd (n q);
         }
 
-    module _ (e : b.status ≡ running) (m : b.mark ≡ none) where
+    module _ (e : b.status ≡ running) (m : b.mark ≡ None) where
       fresh_all : Every (Fresh M table start st i) b.reads
       fresh_all = rw m at g.fresh
 
@@ -103,9 +101,9 @@ module _ (few : ℕ) (M : Machine) (table : ℕ → ℕ) where
           room false r s x = still
 
           go : (o : Option ℕ) → last_value b.journal c ≡ o → (o' : Option ℕ) → listed_value b.reads c ≡ o' → Right (read_step few M table b c o o' (find table st c i)).job
-          go (some v) x o y = steps _ (by_own g.ran q x)
-          go none x (some v) y = steps _ (by_listed g.ran q x y)
-          go none x none y =
+          go (Some v) x o y = steps _ (by_own g.ran q x)
+          go None x (Some v) y = steps _ (by_listed g.ran q x y)
+          go None x None y =
               let r = listing b c (find table st c i) in
               room (ltb (length b.reads) few) r (given b.state r.value) (lists _ r (by_found r g.ran q x y refl) refl)
       instructed_right (write c v s) q = room (ltb (length b.journal) few)
@@ -118,7 +116,7 @@ module _ (few : ℕ) (M : Machine) (table : ℕ → ℕ) where
       instructed_right stuck q = still
 
     -- 5. final
-    settles : b.status ≡ ended → b.mark ≡ none → all_final st i ≡ true → Right (settle b)
+    settles : b.status ≡ ended → b.mark ≡ None → all_final st i ≡ true → Right (settle b)
     unfolding shown
     settles e m f = record {
       good = record { ran = g.ran; fresh = g.fresh; marked = g.marked; held = g.held; stands = λ n. g.stands (λ q. ended≢running (sym e ∙ q)); settled = λ q. (m, f) };
@@ -128,10 +126,10 @@ module _ (few : ℕ) (M : Machine) (table : ℕ → ℕ) where
 
     ruled_right : (s : Status) → b.status ≡ s → (o : Option ℕ) → b.mark ≡ o → Right (ruled few M table st i b s o).job
     ruled_right final e m q = still
-    ruled_right running e (some m) q = goes_back (λ x. running≢final (sym e ∙ x)) m q
-    ruled_right running e none q = instructed_right e q (act b.state) refl
-    ruled_right ended e (some m) q = goes_back (λ x. ended≢final (sym e ∙ x)) m q
-    ruled_right ended e none q = go (all_final st i) refl
+    ruled_right running e (Some m) q = goes_back (λ x. running≢final (sym e ∙ x)) m q
+    ruled_right running e None q = instructed_right e q (act b.state) refl
+    ruled_right ended e (Some m) q = goes_back (λ x. ended≢final (sym e ∙ x)) m q
+    ruled_right ended e None q = go (all_final st i) refl
       where
         go : (t : Bool) → all_final st i ≡ t → Right (cond t (moved W.final (settle b)) (moved W.wait b)).job
         go true x = settles e q x
@@ -154,9 +152,9 @@ module _ (few : ℕ) (M : Machine) (table : ℕ → ℕ) where
       room false d e = refl
 
       reads : (c : ℕ) (o o' : Option ℕ) → W.changes (read_step few M table b c o o' (find table st c i)).word ≡ false → (read_step few M table b c o o' (find table st c i)).job ≡ b
-      reads c (some v) o' e = cc
-      reads c none (some v) e = cc
-      reads c none none e = room (ltb (length b.reads) few) _ e
+      reads c (Some v) o' e = cc
+      reads c None (Some v) e = cc
+      reads c None None e = room (ltb (length b.reads) few) _ e
 
       acts : (a : Act S) → W.changes (instructed few M table st i b a).word ≡ false → (instructed few M table st i b a).job ≡ b
       acts (nothing s) e = cc
@@ -172,7 +170,7 @@ module _ (few : ℕ) (M : Machine) (table : ℕ → ℕ) where
 
       go : (s : Status) (o : Option ℕ) → W.changes (ruled few M table st i b s o).word ≡ false → (ruled few M table st i b s o).job ≡ b
       go final o e = refl
-      go running (some m) e = cc
-      go running none e = acts (act b.state) e
-      go ended (some m) e = cc
-      go ended none e = ends (all_final st i) e
+      go running (Some m) e = cc
+      go running None e = acts (act b.state) e
+      go ended (Some m) e = cc
+      go ended None e = ends (all_final st i) e

@@ -1,8 +1,7 @@
 -- The run of a job that passed. Each listed read is a READ of its run and each entry of its journal a WRITE, so there is always room for the next;
 -- and since no READ comes first, a checkpoint has fewer instructions ahead than the start.
-use Rattle.std.specs.Prelude.{◌≡◌, refl, ◌≢◌, Bool, true, false, cond, List, [], ◌∷◌, ◌++◌, ℕ, suc, ◌+◌, ◌≤◌, ◌<◌, eqb, length}
+use Rattle.std.specs.Prelude.{◌≡◌, refl, ◌≢◌, Bool, true, false, cond, List, [], ◌∷◌, ◌++◌, ℕ, suc, ◌+◌, ◌≤◌, ◌<◌, eqb, length, Option, None, Some}
 use Rattle.std.proofs.Common.{sym, ap, ◌∙◌, subst, arith, lt-ltb, length-append}
-use Rattle.std.proofs.Math.Option.{Option, none, some}
 use Rattle.theory.specs.Word as W
 use Rattle.theory.specs.Promise.{Act, nothing, read, write, stop, abandon, stuck, Machine, Promise, Checked, Passed}
 use Rattle.theory.specs.Run as R
@@ -90,9 +89,9 @@ module _ (few : ℕ) (M : Machine) (cells : ℕ) (P : Promise cells M) (K : Chec
       b = st i
 
       reads : (c : ℕ) → act b.state ≡ read c → (o o' : Option ℕ) → is_stuck (read_step few M table b c o o' (find table st c i)).word ≡ false
-      reads c e (some v) o' = refl
-      reads c e none (some v) = refl
-      reads c e none none = rw (lt-ltb (length b.reads) few (room_to_read M cells P K few (start i) p g.ran c e)) refl
+      reads c e (Some v) o' = refl
+      reads c e None (Some v) = refl
+      reads c e None None = rw (lt-ltb (length b.reads) few (room_to_read M cells P K few (start i) p g.ran c e)) refl
 
       acts : (a : Act S) → act b.state ≡ a → is_stuck (instructed few M table st i b a).word ≡ false
       acts (nothing s) e = refl
@@ -108,7 +107,7 @@ module _ (few : ℕ) (M : Machine) (cells : ℕ) (P : Promise cells M) (K : Chec
 
       go : (s : Status) (o : Option ℕ) → is_stuck (ruled few M table st i b s o).word ≡ false
       go final o = refl
-      go running (some m) = refl
-      go running none = acts (act b.state) refl
-      go ended (some m) = refl
-      go ended none = ends (all_final st i)
+      go running (Some m) = refl
+      go running None = acts (act b.state) refl
+      go ended (Some m) = refl
+      go ended None = ends (all_final st i)

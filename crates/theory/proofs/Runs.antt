@@ -1,9 +1,8 @@
 -- A job's run from its start on the values in its list of reads. A checkpoint is such a run with fewer reads, so going back is a run again;
 -- and a run on the values that a table has is the run of the job alone on that table, since both take the same instruction at each state.
-use Rattle.std.specs.Prelude.{◌≡◌, Bool, true, false, cond, eqb, length, take, get_or}
+use Rattle.std.specs.Prelude.{◌≡◌, Bool, true, false, cond, eqb, length, take, get_or, None, Some}
 use Rattle.std.proofs.Math.Path.{refl}
 use Rattle.std.proofs.Common.{sym, ◌∙◌, subst, arith, eqb-true, length-append}
-use Rattle.std.proofs.Math.Option.{none, some}
 use mathlib.Core.List.{List, [], ◌∷◌, ◌++◌, map, map-append}
 use Prim.Native.Nat.{ℕ, zero, suc, ◌≤◌, ◌<◌}
 use Rattle.std.proofs.Math.Decide.{dec_lt}
@@ -33,11 +32,11 @@ module _ (M : Machine) where
     begin : Ran s₀ [] [] s₀
     by_nothing : {rs : List (Read S)} {j : List Entry} {s t : S} → Ran s₀ rs j s → act s ≡ nothing t → Ran s₀ rs j t
     by_write : {rs : List (Read S)} {j : List Entry} {s t : S} {c v : ℕ} → Ran s₀ rs j s → act s ≡ write c v t → Ran s₀ rs (j ++ (entry c v ∷ [])) t
-    by_own : {rs : List (Read S)} {j : List Entry} {s : S} {c v : ℕ} → Ran s₀ rs j s → act s ≡ read c → last_value j c ≡ some v → Ran s₀ rs j (given s v)
+    by_own : {rs : List (Read S)} {j : List Entry} {s : S} {c v : ℕ} → Ran s₀ rs j s → act s ≡ read c → last_value j c ≡ Some v → Ran s₀ rs j (given s v)
     by_listed : {rs : List (Read S)} {j : List Entry} {s : S} {c v : ℕ} →
-        Ran s₀ rs j s → act s ≡ read c → last_value j c ≡ none → listed_value rs c ≡ some v → Ran s₀ rs j (given s v)
+        Ran s₀ rs j s → act s ≡ read c → last_value j c ≡ None → listed_value rs c ≡ Some v → Ran s₀ rs j (given s v)
     by_found : {rs : List (Read S)} {j : List Entry} {s : S} (r : Read S) →
-        Ran s₀ rs j s → act s ≡ read r.cell → last_value j r.cell ≡ none → listed_value rs r.cell ≡ none → r.checkpoint ≡ checkpoint_of rs j s →
+        Ran s₀ rs j s → act s ≡ read r.cell → last_value j r.cell ≡ None → listed_value rs r.cell ≡ None → r.checkpoint ≡ checkpoint_of rs j s →
         Ran s₀ (rs ++ (r ∷ [])) j (given s r.value)
 
   -- ---- a checkpoint is the run with exactly the reads before it, at a READ
@@ -82,11 +81,11 @@ module _ (M : Machine) where
           rw (get_or_at (checkpoints rs) r.checkpoint [] d m (simp length-map (sym l))) (subst (λ k. Earlier s₀ (rs ++ (r ∷ [])) j m k) (sym at) (new m l))
 
   -- ---- the run of a job alone
-  listed_holds : (P : ℕ → ℕ → Type 0) (rs : List (Read S)) (c v : ℕ) → Every (λ r. P r.cell r.value) rs → listed_value rs c ≡ some v → P c v
+  listed_holds : (P : ℕ → ℕ → Type 0) (rs : List (Read S)) (c v : ℕ) → Every (λ r. P r.cell r.value) rs → listed_value rs c ≡ Some v → P c v
   listed_holds P [] c v a e = absurd (let z : ◌≡◌ {A = ℕ} 0 1 = cc in omega arith)
   listed_holds P (r ∷ rs) c v a e = go (eqb r.cell c) refl e (listed_holds P rs c v a.1)
     where
-      go : (b : Bool) → eqb r.cell c ≡ b → cond b (some r.value) (listed_value rs c) ≡ some v → (listed_value rs c ≡ some v → P c v) → P c v
+      go : (b : Bool) → eqb r.cell c ≡ b → cond b (Some r.value) (listed_value rs c) ≡ Some v → (listed_value rs c ≡ Some v → P c v) → P c v
       go true q e ih =
           let v≡ : r.value ≡ v = cc in
           let c≡ : r.cell ≡ c = eqb-true r.cell c q in

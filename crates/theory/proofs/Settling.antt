@@ -1,9 +1,8 @@
 -- What users lean on: final jobs are a prefix, stay final and are never marked; f never falls; the settled table changes only by a turn whose word is final;
 -- once all jobs are final nothing changes; and two lists of turns that finish all jobs settle the same table, since both settle the serial run.
-use Rattle.std.specs.Prelude.{◌≡◌, ◌≢◌, List, ℕ, ◌≤◌, ◌<◌, length}
+use Rattle.std.specs.Prelude.{◌≡◌, ◌≢◌, List, ℕ, ◌≤◌, ◌<◌, length, None}
 use Rattle.std.proofs.Math.Path.{refl}
 use Rattle.std.proofs.Common.{sym, ap, ◌∙◌, arith}
-use Rattle.std.proofs.Math.Option.{none}
 use Rattle.theory.specs.Word as W
 use Rattle.theory.specs.Word.{final_word}
 use Rattle.theory.specs.Promise.{Machine, Promise}
@@ -43,7 +42,7 @@ module _ (L : Limits) (M : Machine) where
         (λ b t p. (turn_sound L M table starts b t p.0, turn_stays_final L M table starts b t p.0 k p.1))
         (reached L M table starts ts) more (reached_sound L M table starts ts, e)).1
 
-    pub final_unmarked : (ts : List ℕ) (k : ℕ) → (job_at L M (reached L M table starts ts) k).status ≡ final → (job_at L M (reached L M table starts ts) k).mark ≡ none
+    pub final_unmarked : (ts : List ℕ) (k : ℕ) → (job_at L M (reached L M table starts ts) k).status ≡ final → (job_at L M (reached L M table starts ts) k).mark ≡ None
     final_unmarked ts k e = (((reached_sound L M table starts ts).invariant k).settled e).0
 
     pub settled_by_final_only : Promise L.cells M → (ts : List ℕ) (t : ℕ) →

@@ -1,9 +1,8 @@
 -- A block that fits its sizes fits after any turn. A move adds an entry or a read only where there is room; going back cuts the journal and the reads to what
 -- they were at a checkpoint, and the checkpoints before that one hold no more than it does; and a mark names a read that is listed.
-use Rattle.std.specs.Prelude.{◌≡◌, Bool, false, cond, List, [], ◌∷◌, ◌++◌, map, ℕ, suc, ◌+◌, ◌≤◌, ◌<◌, leb, take, drop}
+use Rattle.std.specs.Prelude.{◌≡◌, Bool, false, cond, List, [], ◌∷◌, ◌++◌, map, ℕ, suc, ◌+◌, ◌≤◌, ◌<◌, leb, take, drop, Option, None, Some}
 use Rattle.std.proofs.Math.Path.{refl}
 use Rattle.std.proofs.Math.Bool.{true}
-use Rattle.std.proofs.Math.Option.{Option, none, some}
 use Rattle.std.proofs.Common.{arith, length-append, length-take, length-take-le}
 use borrow.Author.Tests.{ltb-true, lt-ltb, leb-true, le-leb}
 use Rattle.std.proofs.Math.Dec.{ltb}
@@ -11,9 +10,7 @@ use Rattle.std.proofs.Math.ListN.{length}
 use Rattle.std.proofs.lemmas.List.{length-map}
 use Rattle.theory.specs.Word as W
 use Rattle.theory.specs.Promise.{Act, nothing, read, write, stop, abandon, stuck, Machine, Promise}
-use Rattle.theory.specs.Engine.{Entry, Checkpoint, Job, Block, Limits, Status, running, ended, final, last_value, listed_value, find, published, mark_job, all_final}
-use Rattle.theory.specs.Engine.{fresh, go_back, step_to, write_to, list_to, end_with, settle, moved, here, checkpoint_at, listing, read_step, instructed, ruled, move}
-use Rattle.theory.specs.Engine.{all, mark_fits, entry_fits, reads_fit, job_fits, block_fits, job_at, cell_at, nobody, shown, Turned, move_at, turn, turns, opened}
+use Rattle.theory.specs.Engine.{Entry, Checkpoint, Job, Block, Limits, Status, running, ended, final, last_value, listed_value, find, published, mark_job, all_final, fresh, go_back, step_to, write_to, list_to, end_with, settle, moved, here, checkpoint_at, listing, read_step, instructed, ruled, move, all, mark_fits, entry_fits, reads_fit, job_fits, block_fits, job_at, cell_at, nobody, shown, Turned, move_at, turn, turns, opened}
 use Rattle.theory.specs.Every.{Every, every_append, every_take, every_drop, every_at, every_imp, every_map, every_of_all, all_of_every}
 use Rattle.theory.proofs.Versions.{Below, below_le, withdrawn_below, published_below}
 use Rattle.theory.proofs.Marks.{mark_fits_lem}
@@ -81,7 +78,7 @@ module _ (L : Limits) (M : Machine) where
       })
 
   module _ (P : Promise L.cells M) (table : ℕ → ℕ) (st : ℕ → Job S) (i : ℕ) (b : Job S) (f : Fits b) where
-    back_fits : (m : ℕ) → b.mark ≡ some m → Fits (go_back b (checkpoint_at b m))
+    back_fits : (m : ℕ) → b.mark ≡ Some m → Fits (go_back b (checkpoint_at b m))
     back_fits m e =
         go (checkpoint_at b m) (checkpoint_fits L M (length b.journal) 0 b.reads m (here b) h f.reads)
         (λ l g. reads_cut L M (length b.journal) 0 b.reads m (here b) l h g f.reads)
@@ -118,7 +115,7 @@ module _ (L : Limits) (M : Machine) where
           mark = f.mark;
         }
 
-    list_fits : (s : S) (c : ℕ) (v : ℕ × ℕ) → fits s ≡ true → c < L.cells → length b.reads < L.few → b.mark ≡ none → Fits (list_to b s (listing b c v))
+    list_fits : (s : S) (c : ℕ) (v : ℕ × ℕ) → fits s ≡ true → c < L.cells → length b.reads < L.few → b.mark ≡ None → Fits (list_to b s (listing b c v))
     list_fits s c v e l h m = record {
       state = e;
       journal = f.journal;
@@ -135,7 +132,7 @@ module _ (L : Limits) (M : Machine) where
     settle_fits : Fits (settle b)
     settle_fits = record { state = f.state; journal = f.journal; cells = f.cells; versions = f.versions; listed = f.listed; reads = f.reads; mark = f.mark }
 
-    instructed_fits : (a : Act S) → act b.state ≡ a → b.mark ≡ none → Fits (instructed L.few M table st i b a).job
+    instructed_fits : (a : Act S) → act b.state ≡ a → b.mark ≡ None → Fits (instructed L.few M table st i b a).job
     instructed_fits (nothing s) q m = step_fits s (P.fits_nothing b.state s f.state q)
     instructed_fits (read c) q m = go (last_value b.journal c) (listed_value b.reads c)
       where
@@ -150,9 +147,9 @@ module _ (L : Limits) (M : Machine) where
         room false x = f
 
         go : (o o' : Option ℕ) → Fits (read_step L.few M table b c o o' v).job
-        go (some v) o' = step_fits (given b.state v) (given_fits v)
-        go none (some v) = step_fits (given b.state v) (given_fits v)
-        go none none = room (ltb (length b.reads) L.few) refl
+        go (Some v) o' = step_fits (given b.state v) (given_fits v)
+        go None (Some v) = step_fits (given b.state v) (given_fits v)
+        go None None = room (ltb (length b.reads) L.few) refl
     instructed_fits (write c v s) q m = room (ltb (length b.journal) L.few) refl
       where
         room : (t : Bool) → ltb (length b.journal) L.few ≡ t → Fits (cond t (moved W.step (write_to b s (record { cell = c; value = v }))) (moved W.stuck b)).job
@@ -164,10 +161,10 @@ module _ (L : Limits) (M : Machine) where
 
     ruled_fits : (s : Status) (o : Option ℕ) → b.mark ≡ o → Fits (ruled L.few M table st i b s o).job
     ruled_fits final o e = f
-    ruled_fits running (some m) e = back_fits m e
-    ruled_fits running none e = instructed_fits (act b.state) refl e
-    ruled_fits ended (some m) e = back_fits m e
-    ruled_fits ended none e = go (all_final st i)
+    ruled_fits running (Some m) e = back_fits m e
+    ruled_fits running None e = instructed_fits (act b.state) refl e
+    ruled_fits ended (Some m) e = back_fits m e
+    ruled_fits ended None e = go (all_final st i)
       where
         go : (t : Bool) → Fits (cond t (moved W.final (settle b)) (moved W.wait b)).job
         go true = settle_fits

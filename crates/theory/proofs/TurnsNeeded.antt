@@ -1,16 +1,14 @@
 -- The turns of its own that a job still needs, once all lower jobs are final: what is left and one to become final; if it is marked, what is left at the checkpoint
 -- and one more to go back. Each of its own turns leaves fewer, and a turn of another ticket leaves the job as it is; and it is never more than left(start) + 1.
-use Rattle.std.specs.Prelude.{◌≡◌, ◌≢◌, ◌⊎◌, true, length, get_or}
+use Rattle.std.specs.Prelude.{◌≡◌, ◌≢◌, ◌⊎◌, true, length, get_or, Option, None, Some}
 use Rattle.std.proofs.Math.Path.{refl}
 use Rattle.std.proofs.Common.{ap, ◌∙◌, inl, inr, lt-ltb, ltb-true, eq-eqb, ne_eqb}
-use Rattle.std.proofs.Math.Option.{Option, none, some}
 use mathlib.Core.List.{List, [], ◌∷◌}
 use Prim.Native.Nat.{ℕ, suc, pred, ◌≤◌, ◌<◌}
 use native.Mathlib.Omega.{arith}
 use Rattle.std.proofs.Math.Decide.{ℕ_discrete, dec_lt}
 use Rattle.theory.specs.Promise.{Act, nothing, read, write, stop, abandon, stuck, Machine, Promise, Checked, Passed}
-use Rattle.theory.specs.Engine.{Job, Block, Limits, Status, running, ended, final, last_value, listed_value, find, all_final, here}
-use Rattle.theory.specs.Engine.{checkpoint_at, read_step, instructed, ruled, move, block_fits, job_at, cell_at, Turned, move_at, turn, turns}
+use Rattle.theory.specs.Engine.{Job, Block, Limits, Status, running, ended, final, last_value, listed_value, find, all_final, here, checkpoint_at, read_step, instructed, ruled, move, block_fits, job_at, cell_at, Turned, move_at, turn, turns}
 use Rattle.theory.specs.Histories.{occurs}
 use Rattle.theory.proofs.Runs.{ran_earlier}
 use Rattle.theory.proofs.Invariant.{Good, all_final_at, all_final_of, change, change_at, change_low}
@@ -24,10 +22,10 @@ module _ (M : Machine) where
 
   abbrev needed_by : Job S → Status → Option ℕ → ℕ
   needed_by b final o = 0
-  needed_by b ended none = 1
-  needed_by b running none = suc (left b.state)
-  needed_by b ended (some m) = suc (suc (left (checkpoint_at b m).state))
-  needed_by b running (some m) = suc (suc (left (checkpoint_at b m).state))
+  needed_by b ended None = 1
+  needed_by b running None = suc (left b.state)
+  needed_by b ended (Some m) = suc (suc (left (checkpoint_at b m).state))
+  needed_by b running (Some m) = suc (suc (left (checkpoint_at b m).state))
 
   unfoldable pub needed : Job S → ℕ
   needed b = needed_by b b.status b.mark
@@ -38,10 +36,10 @@ module _ (M : Machine) where
     where
       go : (s : Status) (o : Option ℕ) → needed_by b s o ≤ 0 → s ≡ final
       go final o h = refl
-      go ended none h = absurd (omega arith)
-      go ended (some m) h = absurd (omega arith)
-      go running none h = absurd (omega arith)
-      go running (some m) h = absurd (omega arith)
+      go ended None h = absurd (omega arith)
+      go ended (Some m) h = absurd (omega arith)
+      go running None h = absurd (omega arith)
+      go running (Some m) h = absurd (omega arith)
 
   module _ (few cells : ℕ) (P : Promise cells M) (K : Checked M) (table : ℕ → ℕ) (start : ℕ → S)
       (st : ℕ → Job S) (i : ℕ) (p : Passed M K few (start i)) (g : Good M table start st i (st i)) where
@@ -52,29 +50,29 @@ module _ (M : Machine) where
     unfolding needed
     needed_bound = go b.status b.mark refl
       where
-        back : (m : ℕ) → b.mark ≡ some m → left (checkpoint_at b m).state < left (start i)
+        back : (m : ℕ) → b.mark ≡ Some m → left (checkpoint_at b m).state < left (start i)
         back m e =
             let x = ran_earlier M g.ran m (here b) (ltb-true m (length b.reads) (rw e at g.marked)) in
             read_later M cells P K few (start i) p x.ran x.reading.0 x.reading.1
 
         go : (s : Status) (o : Option ℕ) → b.mark ≡ o → needed_by b s o ≤ suc (left (start i))
         go final o e = omega arith
-        go ended none e = omega arith
-        go running none e = omega (arith, passed_left M cells P K few (start i) p g.ran)
-        go ended (some m) e = omega (arith, back m e)
-        go running (some m) e = omega (arith, back m e)
+        go ended None e = omega arith
+        go running None e = omega (arith, passed_left M cells P K few (start i) p g.ran)
+        go ended (Some m) e = omega (arith, back m e)
+        go running (Some m) e = omega (arith, back m e)
 
     move_needs_less : all_final st i ≡ true → needed (move few M table st i).job ≤ pred (needed b)
     unfolding move needed
     move_needs_less f = go b.status refl b.mark refl
       where
-        reads : (c : ℕ) → act b.state ≡ read c → b.status ≡ running → b.mark ≡ none → (o o' : Option ℕ) →
+        reads : (c : ℕ) → act b.state ≡ read c → b.status ≡ running → b.mark ≡ None → (o o' : Option ℕ) →
             needed (read_step few M table b c o o' (find table st c i)).job ≤ left b.state
-        reads c e r m (some v) o' = rw (r, m) (P.after_read b.state c v e)
-        reads c e r m none (some v) = rw (r, m) (P.after_read b.state c v e)
-        reads c e r m none none = rw (lt-ltb (length b.reads) few (room_to_read M cells P K few (start i) p g.ran c e), r, m) (P.after_read b.state c _ e)
+        reads c e r m (Some v) o' = rw (r, m) (P.after_read b.state c v e)
+        reads c e r m None (Some v) = rw (r, m) (P.after_read b.state c v e)
+        reads c e r m None None = rw (lt-ltb (length b.reads) few (room_to_read M cells P K few (start i) p g.ran c e), r, m) (P.after_read b.state c _ e)
 
-        acts : (a : Act S) → act b.state ≡ a → b.status ≡ running → b.mark ≡ none → needed (instructed few M table st i b a).job ≤ left b.state
+        acts : (a : Act S) → act b.state ≡ a → b.status ≡ running → b.mark ≡ None → needed (instructed few M table st i b a).job ≤ left b.state
         acts (nothing s) e r m = rw (r, m) (P.after_nothing b.state s e)
         acts (read c) e r m = reads c e r m (last_value b.journal c) (listed_value b.reads c)
         acts (write c v s) e r m = rw (lt-ltb (length b.journal) few (room_to_write M cells P K few (start i) p g.ran c v s e), r, m) (P.after_write b.state s c v e)
@@ -84,10 +82,10 @@ module _ (M : Machine) where
 
         go : (s : Status) → b.status ≡ s → (o : Option ℕ) → b.mark ≡ o → needed (ruled few M table st i b s o).job ≤ pred (needed_by b s o)
         go final e o q = rw e (omega arith)
-        go running e none q = let x = acts (act b.state) refl e q in omega arith
-        go ended e none q = rw f (omega arith)
-        go running e (some m) q = omega arith
-        go ended e (some m) q = omega arith
+        go running e None q = let x = acts (act b.state) refl e q in omega arith
+        go ended e None q = rw f (omega arith)
+        go running e (Some m) q = omega arith
+        go ended e (Some m) q = omega arith
 
 -- ---- in a block
 module _ (L : Limits) (M : Machine) (P : Promise L.cells M) (K : Checked M) (table : List ℕ) (starts : List M.S) (i : ℕ) (l : i < length starts)

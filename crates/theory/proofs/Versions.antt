@@ -2,8 +2,7 @@
 -- and a search goes down from its start and stops at the first version, so a change of one job's version is seen only by a search that ends at or below it.
 use Rattle.std.proofs.Math.Path.{◌≡◌, refl}
 use Rattle.std.proofs.Common.{sym, ap, ◌∙◌, inl, inr, eqb-true, ltb-true, get_or-take}
-use Rattle.std.specs.Prelude.{◌≢◌, ◌⊎◌, Bool, true, false, cond, ◌||◌, List, [], ◌∷◌, ◌++◌, eqb, ltb, length, take, get_or}
-use Rattle.std.proofs.Math.Option.{Option, none, some}
+use Rattle.std.specs.Prelude.{◌≢◌, ◌⊎◌, Bool, true, false, cond, ◌||◌, List, [], ◌∷◌, ◌++◌, eqb, ltb, length, take, get_or, Option, None, Some}
 use Prim.Native.Nat.{ℕ, zero, suc, ◌+◌, ◌≤◌, ◌<◌}
 use native.Mathlib.Omega.{arith}
 use Rattle.std.proofs.Math.Decide.{ℕ_discrete}
@@ -20,19 +19,19 @@ module _ (start : ℕ) where
   search_le w (suc j) = go (w j) (search_le w j)
     where
       go : (o : Option ℕ) → (search start w j).0 ≤ j → (found o j (search start w j)).0 ≤ suc j
-      go (some v) h = omega arith
-      go none h = omega arith
+      go (Some v) h = omega arith
+      go None h = omega arith
 
   -- it passes over no version
-  pub search_has : (w : ℕ → Option ℕ) (i v : ℕ) → w i ≡ some v → (k : ℕ) → i < k → suc i ≤ (search start w k).0
+  pub search_has : (w : ℕ → Option ℕ) (i v : ℕ) → w i ≡ Some v → (k : ℕ) → i < k → suc i ≤ (search start w k).0
   unfolding search
   search_has w i v e zero h = omega arith
   search_has w i v e (suc j) h = go (w j) refl (ℕ_discrete i j) (search_has w i v e j)
     where
       go : (o : Option ℕ) → w j ≡ o → Dec (i ≡ j) → (i < j → suc i ≤ (search start w j).0) → suc i ≤ (found o j (search start w j)).0
-      go (some x) q d ih = omega arith
-      go none q (yes p) ih = let z : ◌≡◌ {A = ℕ} 0 1 = cc in omega arith
-      go none q (no n) ih = ih (omega arith)
+      go (Some x) q d ih = omega arith
+      go None q (yes p) ih = let z : ◌≡◌ {A = ℕ} 0 1 = cc in omega arith
+      go None q (no n) ih = ih (omega arith)
 
   -- it sees only what is below its start
   pub search_same : (w w' : ℕ → Option ℕ) (k : ℕ) → ((j : ℕ) → j < k → w' j ≡ w j) → search start w' k ≡ search start w k
@@ -48,10 +47,10 @@ module _ (start : ℕ) where
     where
       go : (o : Option ℕ) → w j ≡ o → Dec (j ≡ i) → (suc i < (search start w j).0 → search start w' j ≡ search start w j) →
           suc i < (found o j (search start w j)).0 → found (w' j) j (search start w' j) ≡ found o j (search start w j)
-      go (some x) q (yes p) ih l = absurd (omega arith)
-      go (some x) q (no n) ih l = rw (same j n, q) refl
-      go none q (yes p) ih l = absurd (omega (arith, search_le w j))
-      go none q (no n) ih l = rw (same j n, q) (ih l)
+      go (Some x) q (yes p) ih l = absurd (omega arith)
+      go (Some x) q (no n) ih l = rw (same j n, q) refl
+      go None q (yes p) ih l = absurd (omega (arith, search_le w j))
+      go None q (no n) ih l = rw (same j n, q) (ih l)
 
   -- so a change at i leaves it alone where the version at i is the same, or the search ends above i
   pub search_change : (w w' : ℕ → Option ℕ) (i k : ℕ) → ((j : ℕ) → j ≢ i → w' j ≡ w j) → (w' i ≡ w i) ⊎ (suc i < (search start w k).0) → search start w' k ≡ search start w k
@@ -88,11 +87,11 @@ lasts_below k (e ∷ es) = go (writes? es e.cell) (below_le (suc k + length es) 
 pub published_below : (j : List Entry) → Below (length j) (published j)
 published_below j = below_le (0 + length j) (length j) (published j) (omega arith) (lasts_below 0 j)
 
-pub shown_below : (j : List Entry) (n : ℕ) (vs : List ℕ) (c p : ℕ) → Below n vs → shown_at j vs c ≡ some p → p < n
+pub shown_below : (j : List Entry) (n : ℕ) (vs : List ℕ) (c p : ℕ) → Below n vs → shown_at j vs c ≡ Some p → p < n
 shown_below j n [] c p h e = absurd (let z : ◌≡◌ {A = ℕ} 0 1 = cc in omega arith)
 shown_below j n (v ∷ vs) c p h e = go (eqb (get_or j v no_entry).cell c) e (shown_below j n vs c p h.1)
   where
-    go : (t : Bool) → cond t (some v) (shown_at j vs c) ≡ some p → (shown_at j vs c ≡ some p → p < n) → p < n
+    go : (t : Bool) → cond t (Some v) (shown_at j vs c) ≡ Some p → (shown_at j vs c ≡ Some p → p < n) → p < n
     go true e ih = let q : v ≡ p = cc in omega (arith, h.0)
     go false e ih = ih e
 
@@ -103,41 +102,41 @@ shown_append j k [] c h = refl
 shown_append j k (v ∷ vs) c h = rw (get_or-append j k no_entry v h.0, shown_append j k vs c h.1) refl
 
 -- an entry that the journal holds keeps its value as the journal grows or is cut behind it
-pub value_append : (j k : List Entry) (o : Option ℕ) → ((p : ℕ) → o ≡ some p → p < length j) → value_at (j ++ k) o ≡ value_at j o
-value_append j k none h = refl
-value_append j k (some p) h = rw (get_or-append j k no_entry p (h p refl)) refl
+pub value_append : (j k : List Entry) (o : Option ℕ) → ((p : ℕ) → o ≡ Some p → p < length j) → value_at (j ++ k) o ≡ value_at j o
+value_append j k None h = refl
+value_append j k (Some p) h = rw (get_or-append j k no_entry p (h p refl)) refl
 
-pub value_take : (n : ℕ) (j : List Entry) (o : Option ℕ) → ((p : ℕ) → o ≡ some p → p < n) → value_at (take n j) o ≡ value_at j o
-value_take n j none h = refl
-value_take n j (some p) h = rw (get_or-take n j p no_entry (h p refl)) refl
+pub value_take : (n : ℕ) (j : List Entry) (o : Option ℕ) → ((p : ℕ) → o ≡ Some p → p < n) → value_at (take n j) o ≡ value_at j o
+value_take n j None h = refl
+value_take n j (Some p) h = rw (get_or-take n j p no_entry (h p refl)) refl
 
 -- a journal has a last entry for the cells that it writes, and for no other
-last_none : (j : List Entry) (c : ℕ) → last_at j c ≡ none → writes? j c ≡ false
+last_none : (j : List Entry) (c : ℕ) → last_at j c ≡ None → writes? j c ≡ false
 last_none [] c e = refl
 last_none (x ∷ j) c e = go (last_at j c) refl (eqb x.cell c) refl e (last_none j c)
   where
-    go : (o : Option ℕ) → last_at j c ≡ o → (t : Bool) → eqb x.cell c ≡ t → or_else (next o) (cond t (some zero) none) ≡ none → (last_at j c ≡ none → writes? j c ≡ false) →
+    go : (o : Option ℕ) → last_at j c ≡ o → (t : Bool) → eqb x.cell c ≡ t → or_else (next o) (cond t (Some zero) None) ≡ None → (last_at j c ≡ None → writes? j c ≡ false) →
         eqb x.cell c || writes? j c ≡ false
-    go (some a) q t w e ih = cc
-    go none q true w e ih = cc
-    go none q false w e ih = rw (w, ih q) refl
+    go (Some a) q t w e ih = cc
+    go None q true w e ih = cc
+    go None q false w e ih = rw (w, ih q) refl
 
-no_last : (j : List Entry) (c : ℕ) → writes? j c ≡ false → last_at j c ≡ none
+no_last : (j : List Entry) (c : ℕ) → writes? j c ≡ false → last_at j c ≡ None
 no_last [] c e = refl
 no_last (x ∷ j) c e = go (eqb x.cell c) refl (no_last j c) e
   where
-    go : (t : Bool) → eqb x.cell c ≡ t → (writes? j c ≡ false → last_at j c ≡ none) → t || writes? j c ≡ false → or_else (next (last_at j c)) (cond (eqb x.cell c) (some zero) none) ≡ none
+    go : (t : Bool) → eqb x.cell c ≡ t → (writes? j c ≡ false → last_at j c ≡ None) → t || writes? j c ≡ false → or_else (next (last_at j c)) (cond (eqb x.cell c) (Some zero) None) ≡ None
     go true w ih e = cc
     go false w ih e = rw (w, ih e) refl
 
 -- a place counted from k on
 abbrev from : ℕ → Option ℕ → Option ℕ
-from k none = none
-from k (some n) = some (k + n)
+from k None = None
+from k (Some n) = Some (k + n)
 
 from_next : (k : ℕ) (o : Option ℕ) → from (suc k) o ≡ from k (next o)
-from_next k none = refl
-from_next k (some n) = ap some (omega arith)
+from_next k None = refl
+from_next k (Some n) = ap Some (omega arith)
 
 -- J is a journal, and j what it has from place k on
 shown_lasts : (J : List Entry) (k : ℕ) (j : List Entry) (c : ℕ) → ((n : ℕ) → get_or J (k + n) no_entry ≡ get_or j n no_entry) → shown_at J (lasts_from k j) c ≡ from k (last_at j c)
@@ -148,19 +147,19 @@ shown_lasts J k (e ∷ es) c h =
     here : get_or J k no_entry ≡ e
     here = ap (λ m. get_or J m no_entry) (omega arith) ∙ h 0
 
-    last : (o : Option ℕ) → from k (next o) ≡ from k (or_else (next o) none)
-    last none = refl
-    last (some n) = refl
+    last : (o : Option ℕ) → from k (next o) ≡ from k (or_else (next o) None)
+    last None = refl
+    last (Some n) = refl
 
-    again : (o : Option ℕ) → last_at es c ≡ o → writes? es c ≡ true → from k (next o) ≡ from k (or_else (next o) (some zero))
-    again none q w = let z : ◌≡◌ {A = Bool} true false = sym w ∙ last_none es c q in cc
-    again (some n) q w = refl
+    again : (o : Option ℕ) → last_at es c ≡ o → writes? es c ≡ true → from k (next o) ≡ from k (or_else (next o) (Some zero))
+    again None q w = let z : ◌≡◌ {A = Bool} true false = sym w ∙ last_none es c q in cc
+    again (Some n) q w = refl
 
     go : (t : Bool) → writes? es e.cell ≡ t → (u : Bool) → eqb e.cell c ≡ u → shown_at J (lasts_from (suc k) es) c ≡ from k (next (last_at es c)) →
-        shown_at J (cond t (lasts_from (suc k) es) (k ∷ lasts_from (suc k) es)) c ≡ from k (or_else (next (last_at es c)) (cond u (some zero) none))
+        shown_at J (cond t (lasts_from (suc k) es) (k ∷ lasts_from (suc k) es)) c ≡ from k (or_else (next (last_at es c)) (cond u (Some zero) None))
     go true w true u ih = ih ∙ again (last_at es c) refl (rw (eqb-true e.cell c u) at w)
     go true w false u ih = ih ∙ last (last_at es c)
-    go false w true u ih = rw (here, u, no_last es c (rw (eqb-true e.cell c u) at w)) (ap some (omega arith))
+    go false w true u ih = rw (here, u, no_last es c (rw (eqb-true e.cell c u) at w)) (ap Some (omega arith))
     go false w false u ih = rw (here, u) (ih ∙ last (last_at es c))
 
 -- STOP shows the last entry of each cell
@@ -168,5 +167,5 @@ pub shown_published : (j : List Entry) (c : ℕ) → shown_at j (published j) c 
 shown_published j c = shown_lasts j 0 j c (λ n. ap (λ m. get_or j m no_entry) (omega arith)) ∙ from_zero (last_at j c)
   where
     from_zero : (o : Option ℕ) → from 0 o ≡ o
-    from_zero none = refl
-    from_zero (some n) = ap some (omega arith)
+    from_zero None = refl
+    from_zero (Some n) = ap Some (omega arith)

@@ -1,7 +1,6 @@
 -- Document 01, "One turn": the plain engine over any machine, any number of jobs and cells. Everything is executable.
 -- The job at index k of a block has ticket k + 1; ticket 0 is the start table.
-use Rattle.std.specs.Prelude.{Bool, true, false, cond, ◌&&◌, ◌||◌, List, [], ◌∷◌, ◌++◌, map, ℕ, zero, suc, ◌+◌, ◌-◌, eqb, leb, ltb, length, take, drop, get_or}
-use Rattle.std.proofs.Math.Option.{Option, none, some}
+use Rattle.std.specs.Prelude.{Bool, true, false, cond, ◌&&◌, ◌||◌, List, [], ◌∷◌, ◌++◌, map, ℕ, zero, suc, ◌+◌, ◌-◌, eqb, leb, ltb, length, take, drop, get_or, Option, None, Some}
 use Rattle.theory.specs.Word as W
 use Rattle.theory.specs.Promise.{Act, nothing, read, write, stop, abandon, stuck, Machine}
 
@@ -50,23 +49,23 @@ abbrev pub no_entry : Entry
 no_entry = record { cell = 0; value = 0 }
 
 abbrev pub or_else : {A : Type 0} → Option A → Option A → Option A
-or_else (some a) o = some a
-or_else none o = o
+or_else (Some a) o = Some a
+or_else None o = o
 
 abbrev pub next : Option ℕ → Option ℕ
-next (some k) = some (suc k)
-next none = none
+next (Some k) = Some (suc k)
+next None = None
 
 -- ---- the journal
 -- the number of the last entry for a cell
 abbrev pub last_at : List Entry → ℕ → Option ℕ
-last_at [] c = none
-last_at (e ∷ es) c = or_else (next (last_at es c)) (cond (eqb e.cell c) (some zero) none)
+last_at [] c = None
+last_at (e ∷ es) c = or_else (next (last_at es c)) (cond (eqb e.cell c) (Some zero) None)
 
 -- the value of the entry with a number
 abbrev pub value_at : List Entry → Option ℕ → Option ℕ
-value_at j (some k) = some (get_or j k no_entry).value
-value_at j none = none
+value_at j (Some k) = Some (get_or j k no_entry).value
+value_at j None = None
 
 abbrev pub last_value : List Entry → ℕ → Option ℕ
 last_value j c = value_at j (last_at j c)
@@ -83,8 +82,8 @@ lasts_from k (e ∷ es) = cond (writes? es e.cell) (lasts_from (suc k) es) (k �
 -- ---- public versions
 -- the entry from which the versions vs of a journal show a cell
 abbrev pub shown_at : List Entry → List ℕ → ℕ → Option ℕ
-shown_at j [] c = none
-shown_at j (v ∷ vs) c = cond (eqb (get_or j v no_entry).cell c) (some v) (shown_at j vs c)
+shown_at j [] c = None
+shown_at j (v ∷ vs) c = cond (eqb (get_or j v no_entry).cell c) (Some v) (shown_at j vs c)
 
 -- STOP makes public, for each cell in the journal, the last entry
 abbrev pub published : List Entry → List ℕ
@@ -97,8 +96,8 @@ withdrawn n (v ∷ vs) = cond (ltb v n) (v ∷ withdrawn n vs) (withdrawn n vs)
 
 -- a version found, of the job at index k; or what stands lower
 abbrev pub found : Option ℕ → ℕ → ℕ × ℕ → ℕ × ℕ
-found (some v) k lower = (suc k, v)
-found none k lower = lower
+found (Some v) k lower = (suc k, v)
+found None k lower = lower
 
 -- the greatest ticket up to k with a version of a cell, and the value; failing that, ticket 0 and the start table's
 unfoldable pub search : ℕ → (ℕ → Option ℕ) → ℕ → ℕ × ℕ
@@ -109,16 +108,16 @@ search start version (suc k) = found (version k) k (search start version k)
 -- where ticket t showed a cell from entry `before` and shows it from `after`: is a higher job's read of it, with this source, to be marked?
 -- newly, or from another entry: sources t or lower; withdrawn: source t
 abbrev pub struck : Option ℕ → Option ℕ → ℕ → ℕ → Bool
-struck none none t source = false
-struck none (some b) t source = leb source t
-struck (some a) none t source = eqb source t
-struck (some a) (some b) t source = cond (eqb a b) false (leb source t)
+struck None None t source = false
+struck None (Some b) t source = leb source t
+struck (Some a) None t source = eqb source t
+struck (Some a) (Some b) t source = cond (eqb a b) false (leb source t)
 
 -- of two marks the earlier counts
 abbrev pub earlier : Option ℕ → Option ℕ → Option ℕ
-earlier none m = m
-earlier (some k) none = some k
-earlier (some k) (some m) = cond (ltb k m) (some k) (some m)
+earlier None m = m
+earlier (Some k) None = Some k
+earlier (Some k) (Some m) = cond (ltb k m) (Some k) (Some m)
 
 abbrev pub is_final : Status → Bool
 is_final running = false
@@ -138,15 +137,15 @@ module _ {S : Type 0} where
 
   -- the value of the job's own listed read of a cell
   abbrev pub listed_value : List (Read S) → ℕ → Option ℕ
-  listed_value [] c = none
-  listed_value (r ∷ rs) c = cond (eqb r.cell c) (some r.value) (listed_value rs c)
+  listed_value [] c = None
+  listed_value (r ∷ rs) c = cond (eqb r.cell c) (Some r.value) (listed_value rs c)
 
   abbrev pub is_struck : (ℕ → Option ℕ) → (ℕ → Option ℕ) → ℕ → Read S → Bool
   is_struck before after t r = struck (before r.cell) (after r.cell) t r.source
 
   abbrev pub first_struck : (Read S → Bool) → List (Read S) → Option ℕ
-  first_struck f [] = none
-  first_struck f (r ∷ rs) = cond (f r) (some zero) (next (first_struck f rs))
+  first_struck f [] = None
+  first_struck f (r ∷ rs) = cond (f r) (Some zero) (next (first_struck f rs))
 
   -- a higher job after ticket t's versions changed
   abbrev pub mark_job : (ℕ → Option ℕ) → (ℕ → Option ℕ) → ℕ → Job S → Job S
@@ -171,7 +170,7 @@ module _ {S : Type 0} where
 
   -- ---- a job's own moves
   abbrev pub fresh : S → Job S
-  fresh s = record { state = s; journal = []; versions = []; reads = []; mark = none; status = running }
+  fresh s = record { state = s; journal = []; versions = []; reads = []; mark = None; status = running }
 
   -- 2. back: to the checkpoint, losing reads and journal past it, and the versions that came from lost entries
   abbrev pub go_back : Job S → Checkpoint S → Job S
@@ -181,7 +180,7 @@ module _ {S : Type 0} where
         journal = take c.writes b.journal;
         versions = withdrawn c.writes b.versions;
         reads = take c.listed b.reads;
-        mark = none;
+        mark = None;
         status = running;
       }
 
@@ -228,9 +227,9 @@ module _ (few : ℕ) (M : Machine) (table : ℕ → ℕ) where
 
   -- READ: the own last entry; failing that the own listed read; failing that the version found, which is listed if there is room
   abbrev pub read_step : Job S → ℕ → Option ℕ → Option ℕ → ℕ × ℕ → Moved S
-  read_step b c (some v) o f = moved W.step (step_to b (given b.state v))
-  read_step b c none (some v) f = moved W.step (step_to b (given b.state v))
-  read_step b c none none f = cond (ltb (length b.reads) few) (moved W.step (list_to b (given b.state f.1) (listing b c f))) (moved W.stuck b)
+  read_step b c (Some v) o f = moved W.step (step_to b (given b.state v))
+  read_step b c None (Some v) f = moved W.step (step_to b (given b.state v))
+  read_step b c None None f = cond (ltb (length b.reads) few) (moved W.step (list_to b (given b.state f.1) (listing b c f))) (moved W.stuck b)
 
   -- one instruction of the job b at index i, or its end
   abbrev pub instructed : (ℕ → Job S) → ℕ → Job S → Act S → Moved S
@@ -244,10 +243,10 @@ module _ (few : ℕ) (M : Machine) (table : ℕ → ℕ) where
   -- document 01's rules, tried in order: idle; back; step or end; final; wait
   abbrev pub ruled : (ℕ → Job S) → ℕ → Job S → Status → Option ℕ → Moved S
   ruled st i b final m = moved W.idle b
-  ruled st i b running (some m) = moved W.back (go_back b (checkpoint_at b m))
-  ruled st i b ended (some m) = moved W.back (go_back b (checkpoint_at b m))
-  ruled st i b running none = instructed st i b (act b.state)
-  ruled st i b ended none = cond (all_final st i) (moved W.final (settle b)) (moved W.wait b)
+  ruled st i b running (Some m) = moved W.back (go_back b (checkpoint_at b m))
+  ruled st i b ended (Some m) = moved W.back (go_back b (checkpoint_at b m))
+  ruled st i b running None = instructed st i b (act b.state)
+  ruled st i b ended None = cond (all_final st i) (moved W.final (settle b)) (moved W.wait b)
 
   unfoldable pub move : (ℕ → Job S) → ℕ → Moved S
   move st i = ruled st i (st i) (st i).status (st i).mark
@@ -258,8 +257,8 @@ all f [] = true
 all f (a ∷ l) = f a && all f l
 
 abbrev pub mark_fits : Option ℕ → ℕ → Bool
-mark_fits none n = true
-mark_fits (some m) n = ltb m n
+mark_fits None n = true
+mark_fits (Some m) n = ltb m n
 
 module _ (L : Limits) (M : Machine) where
   open M use {S, fits, nowhere}

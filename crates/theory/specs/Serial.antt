@@ -1,12 +1,11 @@
 -- Document 01, "Running serially": a job alone on a table, and the first f jobs one after another.
-use Rattle.std.specs.Prelude.{List, [], ◌∷◌, ◌++◌, ℕ, zero, suc}
-use Rattle.std.proofs.Math.Option.{get_or}
+use Rattle.std.specs.Prelude.{List, [], ◌∷◌, ◌++◌, ℕ, zero, suc, unwrap_or}
 use Rattle.theory.specs.Promise.{nothing, read, write, stop, abandon, stuck, Machine}
 use Rattle.theory.specs.Engine.{Entry, last_value}
 
 -- a table with a journal's writes over it, in order: the last entry for each cell
 abbrev pub over : List Entry → (ℕ → ℕ) → ℕ → ℕ
-over j table c = get_or (last_value j c) (table c)
+over j table c = unwrap_or (last_value j c) (table c)
 
 module _ (M : Machine) where
   open M use {S, act, given, left}

@@ -1,9 +1,8 @@
 -- Demands 2 and 3 for the box: a paper that the checker accepts, on a start table of 256 cells, with any list of tickets after its opening.
 -- They are the theory's theorems at the box's machine, whose promise the checker's answer gives.
-use Rattle.std.specs.Prelude.{◌≡◌, ◌≢◌, Bool, false, not, cond, ℕ, suc, ◌+◌, ◌≤◌, ◌<◌, eqb, get_or}
+use Rattle.std.specs.Prelude.{◌≡◌, ◌≢◌, Bool, false, not, cond, ℕ, suc, ◌+◌, ◌≤◌, ◌<◌, eqb, get_or, Some}
 use Rattle.std.proofs.Math.Path.{refl, fun_ext}
 use Rattle.std.proofs.Math.Bool.{true}
-use Rattle.std.proofs.Math.Option.{some}
 use mathlib.Core.List.{List, [], ◌∷◌, map}
 use Rattle.std.proofs.Common.{arith, ne_eqb}
 use Rattle.std.proofs.Math.Decide.{ℕ_discrete}
@@ -14,8 +13,7 @@ use Rattle.theory.specs.Promise.{Passed}
 use Rattle.theory.specs.Engine as E
 use Rattle.theory.specs.Every.{Every}
 use Rattle.theory.specs.Serial.{serial}
-use Rattle.theory.specs.Histories.{final_turns}
-use Rattle.theory.specs.Histories.{occurs}
+use Rattle.theory.specs.Histories.{final_turns, occurs}
 use Rattle.theory.proofs.SettledIsSerial as S
 use Rattle.theory.proofs.NeverStuck as N
 use Rattle.theory.proofs.FinalWithin as F
@@ -85,7 +83,7 @@ module _ (start paper : List ℕ) (js : List (List Instruction)) (whole : length
   -- in its list of reads, however often it went back; marked or not
   pub follows : (ts : List ℕ) (i : ℕ) →
       let j = E.job_at limits box (after ts) i in
-      (n : ℕ) × (run_on box j.reads (starting (get_or js i [])) n ≡ some (record { state = j.state; journal = j.journal }))
+      (n : ℕ) × (run_on box j.reads (starting (get_or js i [])) n ≡ Some (record { state = j.state; journal = j.journal }))
   follows ts i = rw (opens, ← starts i) (O.follows limits box start (map starting js) ts i)
 
   -- the block fits after any turns

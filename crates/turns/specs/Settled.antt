@@ -1,6 +1,5 @@
 -- Document 01's settled table: 12 first, then 20; else each cell is what the final jobs leave of it, and f is their number.
-use Rattle.std.specs.Prelude.{◌≡◌, not, cond, List, ℕ, zero, suc, ◌+◌, ◌<◌, eqb, leb, length, get_or}
-use Rattle.std.proofs.Math.Option
+use Rattle.std.specs.Prelude.{◌≡◌, not, cond, List, ℕ, zero, suc, ◌+◌, ◌<◌, eqb, leb, length, get_or, unwrap_or}
 use Rattle.theory.specs.Engine as E
 use Rattle.machine.specs.Limits.{CELLS}
 use Rattle.rules.specs.Box.{limits, box}
@@ -33,7 +32,7 @@ pub record InTable (j : Journal) : Type 0 where
 
 -- what a job shows of each cell, over a table
 abbrev pub shown_over : Journal → List ℕ → (ℕ → ℕ) → ℕ → ℕ
-shown_over j vs table c = Option.get_or (E.value_at (journal_of j) (E.shown_at (journal_of j) vs c)) (table c)
+shown_over j vs table c = unwrap_or (E.value_at (journal_of j) (E.shown_at (journal_of j) vs c)) (table c)
 
 pub record Showed (j : Journal) (v : Versions) (before after : List ℕ) : Type 0 where
   pub size : length after ≡ CELLS

@@ -1,7 +1,7 @@
 -- The journal: its last entry for a cell is found from the end, where the list grows by one entry at a time.
 use mathlib.Core.Path.{◌≡◌, refl, ap, sym, ◌∙◌}
 use mathlib.Core.Bool.{Bool, true, false, cond}
-use mathlib.Core.Option.{Option, none, some}
+use Rattle.std.specs.Prelude.{Option, None, Some}
 use mathlib.Core.List.{List, [], ◌∷◌, ◌++◌}
 use Prim.Native.Nat.{ℕ, zero, suc, ◌+◌, ◌-◌, ◌≤◌, ◌<◌}
 use native.Mathlib.Omega.{arith}
@@ -23,12 +23,12 @@ unfolding entries_of
 entries_none es = refl
 
 -- the last entry of a list that ends in e
-last_snoc : (es : List E.Entry) (e : E.Entry) (c : ℕ) → last_at (es ++ (e ∷ [])) c ≡ cond (eqb e.cell c) (some (length es)) (last_at es c)
+last_snoc : (es : List E.Entry) (e : E.Entry) (c : ℕ) → last_at (es ++ (e ∷ [])) c ≡ cond (eqb e.cell c) (Some (length es)) (last_at es c)
 last_snoc [] e c = refl
 last_snoc (x ∷ es) e c = rw (last_snoc es e c) (go (eqb e.cell c))
   where
-    go : (t : Bool) → or_else (next (cond t (some (length es)) (last_at es c))) (cond (eqb x.cell c) (some 0) none)
-        ≡ cond t (some (suc (length es))) (or_else (next (last_at es c)) (cond (eqb x.cell c) (some 0) none))
+    go : (t : Bool) → or_else (next (cond t (Some (length es)) (last_at es c))) (cond (eqb x.cell c) (Some 0) None)
+        ≡ cond t (Some (suc (length es))) (or_else (next (last_at es c)) (cond (eqb x.cell c) (Some 0) None))
     go true = refl
     go false = refl
 

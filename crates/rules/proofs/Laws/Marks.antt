@@ -1,7 +1,7 @@
 -- Marking: the first struck read is found from the front, where what is left from place k on decides; the sweep changes one list at a time.
 use mathlib.Core.Path.{◌≡◌, refl, ap, sym, ◌∙◌}
 use mathlib.Core.Bool.{Bool, true, false, cond}
-use mathlib.Core.Option.{Option, none, some}
+use Rattle.std.specs.Prelude.{Option, None, Some}
 use mathlib.Core.List.{List}
 use Prim.Native.Nat.{ℕ, zero, suc, ◌+◌, ◌-◌, ◌≤◌, ◌<◌}
 use native.Mathlib.Omega.{arith}
@@ -49,15 +49,15 @@ unfolding struck_by
 struck_is r old new t o n x eo en e = rw (← eo, ← en) e
 
 module _ (k m : ℕ) where
-  pub earlier_new : k < m → k ≡ mark_byte (earlier (some k) (mark_of m))
+  pub earlier_new : k < m → k ≡ mark_byte (earlier (Some k) (mark_of m))
   unfolding mark_byte mark_of
   earlier_new l = go (eqb m 255) refl
     where
-      go : (t : Bool) → eqb m 255 ≡ t → k ≡ mark_byte (earlier (some k) (cond t none (some m)))
+      go : (t : Bool) → eqb m 255 ≡ t → k ≡ mark_byte (earlier (Some k) (cond t None (Some m)))
       go true e = refl
       go false e = rw (lt-ltb k m l) refl
 
-  pub earlier_old : k < 8 → m ≤ k → m ≡ mark_byte (earlier (some k) (mark_of m))
+  pub earlier_old : k < 8 → m ≤ k → m ≡ mark_byte (earlier (Some k) (mark_of m))
   unfolding mark_byte mark_of
   earlier_old a l = rw (ne_eqb m 255 (λ q. omega arith), le-ltb k m l) refl
 
@@ -68,11 +68,11 @@ module _ (f : ℕ → Bool) (n k : ℕ) (R : Option ℕ) where
   less : k < n → suc (n - suc k) ≡ n - k
   less l = omega arith
 
-  first_here : k < n → f k ≡ true → first_from f k (n - k) ≡ R → some k ≡ R
+  first_here : k < n → f k ≡ true → first_from f k (n - k) ≡ R → Some k ≡ R
   unfolding first_from
   first_here l e q = one (n - suc k) ∙ ap (first_from f k) (less l) ∙ q
     where
-      one : (m : ℕ) → some k ≡ first_from f k (suc m)
+      one : (m : ℕ) → Some k ≡ first_from f k (suc m)
       one m = rw e refl
 
   first_on : k < n → f k ≡ false → first_from f k (n - k) ≡ R → first_from f (k + 1) (n - (k + 1)) ≡ R
@@ -82,11 +82,11 @@ module _ (f : ℕ → Bool) (n k : ℕ) (R : Option ℕ) where
       one : (m : ℕ) → first_from f (suc k) m ≡ first_from f k (suc m)
       one m = rw e refl
 
-  first_end : n ≤ k → first_from f k (n - k) ≡ R → none ≡ R
+  first_end : n ≤ k → first_from f k (n - k) ≡ R → None ≡ R
   unfolding first_from
   first_end l q = empty (n - k) (omega arith) ∙ q
     where
-      empty : (m : ℕ) → m ≤ 0 → none ≡ first_from f k m
+      empty : (m : ℕ) → m ≤ 0 → None ≡ first_from f k m
       empty zero w = refl
       empty (suc m) w = absurd (omega arith)
 
@@ -98,7 +98,7 @@ module _ (old new : Shows) (t : ℕ) (rs : Reads) (k : ℕ) where
   first = first_from f 0 rs.size
 
   module _ (l : k < rs.size) (inv : first_from (strikes_at old new t rs) k (rs.size - k) ≡ first_from (strikes_at old new t rs) 0 rs.size) (b : Bool) (eb : b ≡ struck_by old new t (get_or rs.reads k no_read)) where
-    pub mark_here : (m : ℕ) → b ≡ true → m ≡ mark_byte (earlier (some k) (mark_of rs.mark)) → m ≡ mark_by old new t rs
+    pub mark_here : (m : ℕ) → b ≡ true → m ≡ mark_byte (earlier (Some k) (mark_of rs.mark)) → m ≡ mark_by old new t rs
     unfolding mark_by
     mark_here m e q = q ∙ ap (λ (o : Option ℕ). mark_byte (earlier o (mark_of rs.mark))) (first_here f rs.size k first l (sym eb ∙ e) inv)
 
@@ -109,7 +109,7 @@ module _ (old new : Shows) (t : ℕ) (rs : Reads) (k : ℕ) where
   unfolding mark_by mark_byte mark_of
   mark_end l inv = rw (← first_end f rs.size k first l inv) (go (eqb rs.mark 255) refl)
     where
-      go : (x : Bool) → eqb rs.mark 255 ≡ x → rs.mark ≡ mark_byte (cond x none (some rs.mark))
+      go : (x : Bool) → eqb rs.mark 255 ≡ x → rs.mark ≡ mark_byte (cond x None (Some rs.mark))
       go true e = eqb-true _ _ e
       go false e = refl
 

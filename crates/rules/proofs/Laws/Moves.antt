@@ -1,7 +1,7 @@
 -- The moves: a store at index i changes that job alone, a sweep changes the marks above it, and these are the plain moves.
 use mathlib.Core.Path.{◌≡◌, refl, ap, sym, ◌∙◌, fun_ext}
 use mathlib.Core.Bool.{Bool, true, false, cond}
-use mathlib.Core.Option.{Option, none, some}
+use Rattle.std.specs.Prelude.{Option, None, Some}
 use mathlib.Core.List.{List, [], ◌∷◌, ◌++◌}
 use Prim.Native.Nat.{ℕ, zero, suc, ◌+◌, ◌-◌, ◌*◌, ◌≤◌, ◌<◌}
 use native.Mathlib.Omega.{arith}
@@ -160,13 +160,13 @@ list_is b i s x l inside z room ws wr wc added =
 -- ---- marks, on the code's structs and in the plain engine
 module _ (g : E.Read Running → Bool) (n : ℕ) (h : ℕ → E.Read Running) where
   shift : ℕ → Option ℕ → Option ℕ
-  shift k none = none
-  shift k (some m) = some (k + m)
+  shift k None = None
+  shift k (Some m) = Some (k + m)
 
   shift_next : (k : ℕ) (o : Option ℕ) → shift k (next o) ≡ shift (suc k) o
   unfolding shift
-  shift_next k none = refl
-  shift_next k (some m) = ap some (let w : k + suc m ≡ suc k + m = omega arith in w)
+  shift_next k None = refl
+  shift_next k (Some m) = ap Some (let w : k + suc m ≡ suc k + m = omega arith in w)
 
   first_rest : (m k : ℕ) → k + m ≡ n → shift k (first_struck g (drop k (tab n h))) ≡ first_from (λ q. g (h q)) k m
   unfolding shift first_from
@@ -174,8 +174,8 @@ module _ (g : E.Read Running → Bool) (n : ℕ) (h : ℕ → E.Read Running) wh
   first_rest (suc m) k e = rw (drop_tab n h k (omega arith)) (go (g (h k)) (first_rest m (suc k) (omega arith)))
     where
       go : (t : Bool) → shift (suc k) (first_struck g (drop (suc k) (tab n h))) ≡ first_from (λ q. g (h q)) (suc k) m
-          → shift k (cond t (some 0) (next (first_struck g (drop (suc k) (tab n h))))) ≡ cond t (some k) (first_from (λ q. g (h q)) (suc k) m)
-      go true ih = ap some (let w : k + 0 ≡ k = omega arith in w)
+          → shift k (cond t (Some 0) (next (first_struck g (drop (suc k) (tab n h))))) ≡ cond t (Some k) (first_from (λ q. g (h q)) (suc k) m)
+      go true ih = ap Some (let w : k + 0 ≡ k = omega arith in w)
       go false ih = shift_next k (first_struck g (drop (suc k) (tab n h))) ∙ ih
 
   first_is : first_struck g (tab n h) ≡ first_from (λ q. g (h q)) 0 n
@@ -183,35 +183,35 @@ module _ (g : E.Read Running → Bool) (n : ℕ) (h : ℕ → E.Read Running) wh
   first_is = go (first_struck g (tab n h)) (first_rest n 0 (omega arith))
     where
       go : (o : Option ℕ) → shift 0 o ≡ first_from (λ q. g (h q)) 0 n → o ≡ first_from (λ q. g (h q)) 0 n
-      go none e = e
-      go (some m) e = ap some (let w : m ≡ 0 + m = omega arith in w) ∙ e
+      go None e = e
+      go (Some m) e = ap Some (let w : m ≡ 0 + m = omega arith in w) ∙ e
 
 -- a mark as a byte and back, where it is no 255
-byte_back : (o : Option ℕ) → ((k : ℕ) → o ≡ some k → k ≡ 255 → ⊥) → mark_of (mark_byte o) ≡ o
+byte_back : (o : Option ℕ) → ((k : ℕ) → o ≡ Some k → k ≡ 255 → ⊥) → mark_of (mark_byte o) ≡ o
 unfolding mark_of mark_byte
-byte_back none h = refl
-byte_back (some k) h = rw (ne_eqb k 255 (h k refl)) refl
+byte_back None h = refl
+byte_back (Some k) h = rw (ne_eqb k 255 (h k refl)) refl
 
-first_low : (f : ℕ → Bool) (k m q : ℕ) → first_from f k m ≡ some q → q < k + m
+first_low : (f : ℕ → Bool) (k m q : ℕ) → first_from f k m ≡ Some q → q < k + m
 unfolding first_from
 first_low f k zero q e = absurd (let z : ◌≡◌ {A = ℕ} 0 1 = cc in omega arith)
 first_low f k (suc m) q e = go (f k) e (first_low f (suc k) m q)
   where
-    go : (t : Bool) → cond t (some k) (first_from f (suc k) m) ≡ some q → (first_from f (suc k) m ≡ some q → q < suc k + m) → q < k + suc m
+    go : (t : Bool) → cond t (Some k) (first_from f (suc k) m) ≡ Some q → (first_from f (suc k) m ≡ Some q → q < suc k + m) → q < k + suc m
     go true e ih = let w : k ≡ q = cc in omega arith
     go false e ih = omega (arith, ih e)
 
-earlier_byte : (o : Option ℕ) (m : ℕ) → ((k : ℕ) → o ≡ some k → k < 8) → (q : ℕ) → earlier o (mark_of m) ≡ some q → q ≡ 255 → ⊥
+earlier_byte : (o : Option ℕ) (m : ℕ) → ((k : ℕ) → o ≡ Some k → k < 8) → (q : ℕ) → earlier o (mark_of m) ≡ Some q → q ≡ 255 → ⊥
 unfolding mark_of
 earlier_byte o m h q e z = go o h (eqb m 255) refl e
   where
-    go : (o : Option ℕ) → ((k : ℕ) → o ≡ some k → k < 8) → (t : Bool) → eqb m 255 ≡ t → earlier o (cond t none (some m)) ≡ some q → ⊥
-    go none h true w e = let y : ◌≡◌ {A = ℕ} 0 1 = cc in omega arith
-    go none h false w e = let y : m ≡ q = cc in eqb-false m 255 w (y ∙ z)
-    go (some k) h true w e = let y : k ≡ q = cc in omega (arith, h k refl)
-    go (some k) h false w e = less (ltb k m) e
+    go : (o : Option ℕ) → ((k : ℕ) → o ≡ Some k → k < 8) → (t : Bool) → eqb m 255 ≡ t → earlier o (cond t None (Some m)) ≡ Some q → ⊥
+    go None h true w e = let y : ◌≡◌ {A = ℕ} 0 1 = cc in omega arith
+    go None h false w e = let y : m ≡ q = cc in eqb-false m 255 w (y ∙ z)
+    go (Some k) h true w e = let y : k ≡ q = cc in omega (arith, h k refl)
+    go (Some k) h false w e = less (ltb k m) e
       where
-        less : (t : Bool) → cond t (some k) (some m) ≡ some q → ⊥
+        less : (t : Bool) → cond t (Some k) (Some m) ≡ Some q → ⊥
         less true e = let y : k ≡ q = cc in omega (arith, h k refl)
         less false e = let y : m ≡ q = cc in eqb-false m 255 w (y ∙ z)
 

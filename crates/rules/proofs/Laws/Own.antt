@@ -2,7 +2,7 @@
 -- and so is whether the lower jobs are final.
 use mathlib.Core.Path.{◌≡◌, refl, ap, sym, ◌∙◌}
 use mathlib.Core.Bool.{Bool, true, false, cond, ◌&&◌}
-use mathlib.Core.Option.{Option, none, some}
+use Rattle.std.specs.Prelude.{Option, None, Some}
 use mathlib.Core.List.{List, [], ◌∷◌}
 use Prim.Native.Nat.{ℕ, zero, suc, ◌+◌, ◌-◌, ◌≤◌, ◌<◌}
 use native.Mathlib.Omega.{arith}
@@ -32,7 +32,7 @@ module _ (r : Reads) (c k : ℕ) (R : Option ℕ) (inv : listed_from r c k (r.si
   unfolding listed_from value_of
   listed_here l e = one (r.size - suc k) ∙ ap (listed_from r c k) (less l) ∙ inv
     where
-      one : (m : ℕ) → some (get_or r.reads k no_read).value ≡ listed_from r c k (suc m)
+      one : (m : ℕ) → Some (get_or r.reads k no_read).value ≡ listed_from r c k (suc m)
       one m = rw (eq-eqb _ _ e) refl
 
   pub listed_on : k < r.size → ((get_or r.reads k no_read).cell.0 ≡ c → ⊥) → listed_from r c (k + 1) (r.size - (k + 1)) ≡ R
@@ -46,7 +46,7 @@ module _ (r : Reads) (c k : ℕ) (R : Option ℕ) (inv : listed_from r c k (r.si
   unfolding listed_from value_of
   listed_end l = empty (r.size - k) (omega arith) ∙ inv
     where
-      empty : (m : ℕ) → m ≤ 0 → none ≡ listed_from r c k m
+      empty : (m : ℕ) → m ≤ 0 → None ≡ listed_from r c k m
       empty zero w = refl
       empty (suc m) w = absurd (omega arith)
 
@@ -56,14 +56,14 @@ listed_start r c = simp sub-zero
 pub ruleset listed_laws = (listed_start, listed_here, listed_on, listed_end)
 
 -- ---- the own value of a cell
-last_low : (es : List E.Entry) (c p : ℕ) → last_at es c ≡ some p → p < length es
+last_low : (es : List E.Entry) (c p : ℕ) → last_at es c ≡ Some p → p < length es
 last_low [] c p e = absurd (let z : ◌≡◌ {A = ℕ} 0 1 = cc in omega arith)
 last_low (x ∷ es) c p e = go (last_at es c) refl (eqb x.cell c) e (last_low es c)
   where
-    go : (o : Option ℕ) → last_at es c ≡ o → (t : Bool) → or_else (next o) (cond t (some 0) none) ≡ some p → ((p : ℕ) → last_at es c ≡ some p → p < length es) → p < suc (length es)
-    go (some a) q t e ih = let w : suc a ≡ p = cc in omega (arith, ih a q)
-    go none q true e ih = let w : 0 ≡ p = cc in omega arith
-    go none q false e ih = let z : ◌≡◌ {A = ℕ} 0 1 = cc in absurd (omega arith)
+    go : (o : Option ℕ) → last_at es c ≡ o → (t : Bool) → or_else (next o) (cond t (Some 0) None) ≡ Some p → ((p : ℕ) → last_at es c ≡ Some p → p < length es) → p < suc (length es)
+    go (Some a) q t e ih = let w : suc a ≡ p = cc in omega (arith, ih a q)
+    go None q true e ih = let w : 0 ≡ p = cc in omega arith
+    go None q false e ih = let z : ◌≡◌ {A = ℕ} 0 1 = cc in absurd (omega arith)
 
 module _ (j : Journal) (c : ℕ) (f : Found) (ef : found_of f ≡ last_at (journal_of j) c) where
   pub own_low : (p : ℕ) → f ≡ At p → p < j.size

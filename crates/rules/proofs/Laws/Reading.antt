@@ -1,7 +1,7 @@
 -- WRITE and READ: there is room exactly where the plain rules have it, and a READ takes what the job itself holds before it looks outside.
 use mathlib.Core.Path.{◌≡◌, refl, ap, sym, subst, ◌∙◌}
 use mathlib.Core.Bool.{true}
-use mathlib.Core.Option.{Option, none, some}
+use Rattle.std.specs.Prelude.{Option, None, Some}
 use mathlib.Core.List.{List}
 use Prim.Native.Nat.{ℕ, zero, suc, ◌+◌, ◌-◌, ◌*◌, ◌≤◌, ◌<◌}
 use native.Mathlib.Omega.{arith}
@@ -130,15 +130,15 @@ module _ (b : Block) (i c : ℕ) where
   unfolding job_of
   own_is = ap (or_else (last_value (journal_of (get_or b.journals i no_journal)) c)) listed_is
 
-  own_step : (a o : Option ℕ) (v : ℕ) (f : ℕ × ℕ) → some v ≡ or_else a o → E.read_step FEW box (cells b) (job_of b i) c a o f ≡ E.moved W.step (step_to (job_of b i) (box.given (job_of b i).state v))
-  own_step (some x) o v f e = let w : v ≡ x = cc in rw w refl
-  own_step none (some x) v f e = let w : v ≡ x = cc in rw w refl
-  own_step none none v f e = absurd (let z : ◌≡◌ {A = ℕ} 0 1 = cc in omega arith)
+  own_step : (a o : Option ℕ) (v : ℕ) (f : ℕ × ℕ) → Some v ≡ or_else a o → E.read_step FEW box (cells b) (job_of b i) c a o f ≡ E.moved W.step (step_to (job_of b i) (box.given (job_of b i).state v))
+  own_step (Some x) o v f e = let w : v ≡ x = cc in rw w refl
+  own_step None (Some x) v f e = let w : v ≡ x = cc in rw w refl
+  own_step None None v f e = absurd (let z : ◌≡◌ {A = ℕ} 0 1 = cc in omega arith)
 
-  own_none : (a o : Option ℕ) (f : ℕ × ℕ) → none ≡ or_else a o → E.read_step FEW box (cells b) (job_of b i) c a o f ≡ E.read_step FEW box (cells b) (job_of b i) c none none f
-  own_none (some x) o f e = absurd (let z : ◌≡◌ {A = ℕ} 0 1 = cc in omega arith)
-  own_none none (some x) f e = absurd (let z : ◌≡◌ {A = ℕ} 0 1 = cc in omega arith)
-  own_none none none f e = refl
+  own_none : (a o : Option ℕ) (f : ℕ × ℕ) → None ≡ or_else a o → E.read_step FEW box (cells b) (job_of b i) c a o f ≡ E.read_step FEW box (cells b) (job_of b i) c None None f
+  own_none (Some x) o f e = absurd (let z : ◌≡◌ {A = ℕ} 0 1 = cc in omega arith)
+  own_none None (Some x) f e = absurd (let z : ◌≡◌ {A = ℕ} 0 1 = cc in omega arith)
+  own_none None None f e = refl
 
   pub read_held : (x : Shown) (v : ℕ) (next s : State) (r : Block) → i < b.count → value_of x ≡ holds → x ≡ Value v → Reading b i next c → state_of s ≡ given ROOM v (state_of next)
       → Becomes b r i (step_to (job_of b i) (running_of (code_at b i) s)) → Did b i (reading b i c) (record { word = Step; block = r })

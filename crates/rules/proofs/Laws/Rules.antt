@@ -1,7 +1,7 @@
 -- The rules in document 01's order: each test of the code is a test of the plain rules.
 use mathlib.Core.Path.{◌≡◌, refl, ap, sym, ◌∙◌}
 use mathlib.Core.Bool.{Bool, true, false, cond, ◌&&◌}
-use mathlib.Core.Option.{Option, none, some}
+use Rattle.std.specs.Prelude.{Option, None, Some}
 use Prim.Native.Nat.{ℕ, zero, suc, ◌+◌, ◌-◌, ◌*◌, ◌≤◌, ◌<◌}
 use native.Mathlib.Omega.{arith}
 use lib.Dec.{leb}
@@ -54,11 +54,11 @@ module _ (b : Block) (i : ℕ) where
   unfolding moving job_of
   rules s m es em = rw (es, em) refl
 
-  marked_some : (mark ≡ 255 → ⊥) → mark_of mark ≡ some mark
+  marked_some : (mark ≡ 255 → ⊥) → mark_of mark ≡ Some mark
   unfolding mark_of
   marked_some n = rw (ne_eqb mark 255 n) refl
 
-  marked_none : mark ≡ 255 → mark_of mark ≡ none
+  marked_none : mark ≡ 255 → mark_of mark ≡ None
   unfolding mark_of
   marked_none e = rw (eq-eqb mark 255 e) refl
 
@@ -89,17 +89,17 @@ module _ (b : Block) (i : ℕ) where
   move_back r l n d = go status refl l
     where
       go : (s : ℕ) → status ≡ s → s < 2 → Did b i (moving b i) r
-      go zero e m = rw (rules E.running (some mark) (ap status_of e) (marked_some n)) d
-      go (suc zero) e m = rw (rules E.ended (some mark) (ap status_of e) (marked_some n)) d
+      go zero e m = rw (rules E.running (Some mark) (ap status_of e) (marked_some n)) d
+      go (suc zero) e m = rw (rules E.ended (Some mark) (ap status_of e) (marked_some n)) d
       go (suc (suc s)) e m = absurd (omega arith)
 
   pub move_step : (r : Turned) → mark ≡ 255 → status ≡ 0 → Did b i (stepping b i) r → Did b i (moving b i) r
   unfolding stepping
-  move_step r em es d = rw (rules E.running none (ap status_of es) (marked_none em)) d
+  move_step r em es d = rw (rules E.running None (ap status_of es) (marked_none em)) d
 
   ended_rules : status < 2 → (status ≡ 0 → ⊥) → mark ≡ 255 → i ≤ b.count → (t : Bool) → t ≡ final_below b.status i
       → moving b i ≡ cond t (E.moved W.final (settle (job_of b i))) (E.moved W.wait (job_of b i))
-  ended_rules l n em inside t e = rules E.ended none (ap status_of one) (marked_none em) ∙ rw (final_is b i inside, ← e) refl
+  ended_rules l n em inside t e = rules E.ended None (ap status_of one) (marked_none em) ∙ rw (final_is b i inside, ← e) refl
     where
       one : status ≡ 1
       one = omega arith

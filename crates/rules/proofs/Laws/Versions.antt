@@ -1,7 +1,7 @@
 -- Public versions: a list of entry numbers is built by adding at its end, and what a loop has still to look at is the rest of the list.
 use mathlib.Core.Path.{◌≡◌, refl, ap, sym, ◌∙◌}
 use mathlib.Core.Bool.{Bool, true, false, cond}
-use mathlib.Core.Option.{Option, none, some}
+use Rattle.std.specs.Prelude.{Option, None, Some}
 use mathlib.Core.List.{List, [], ◌∷◌, ◌++◌, append-nil, append_assoc}
 use Prim.Native.Nat.{ℕ, zero, suc, ◌+◌, ◌-◌, ◌≤◌, ◌<◌}
 use native.Mathlib.Omega.{arith}
@@ -180,11 +180,11 @@ pub ruleset withdraw_laws = (withdraw_start, start_size, withdraw_on, withdraw_s
 
 -- ---- the version that a reader finds
 -- an entry that is shown is one of the versions
-shown_listed : (es : List E.Entry) (vs : List ℕ) (n c p : ℕ) → ((k : ℕ) → k < length vs → get_or vs k 0 < n) → shown_at es vs c ≡ some p → p < n
+shown_listed : (es : List E.Entry) (vs : List ℕ) (n c p : ℕ) → ((k : ℕ) → k < length vs → get_or vs k 0 < n) → shown_at es vs c ≡ Some p → p < n
 shown_listed es [] n c p h e = absurd (let z : ◌≡◌ {A = ℕ} 0 1 = cc in omega arith)
 shown_listed es (v ∷ vs) n c p h e = go (eqb (get_or es v E.no_entry).cell c) e (shown_listed es vs n c p (λ k l. h (suc k) (omega arith)))
   where
-    go : (t : Bool) → cond t (some v) (shown_at es vs c) ≡ some p → (shown_at es vs c ≡ some p → p < n) → p < n
+    go : (t : Bool) → cond t (Some v) (shown_at es vs c) ≡ Some p → (shown_at es vs c ≡ Some p → p < n) → p < n
     go true q ih = let w : v ≡ p = cc in rw (← w) (h 0 (omega arith))
     go false q ih = ih q
 
@@ -215,7 +215,7 @@ module _ (js : List Journal) (vs : List Versions) (start c : ℕ) where
   unfolding version_of version_at found_in E.search value_of
   find_own t x r n e q = go t.0 n (sym e ∙ ap value_of q)
     where
-      go : (m : ℕ) → (m ≡ 0 → ⊥) → version_at js vs (m - 1) c ≡ some x → (m, x) ≡ E.search start (λ k. version_at js vs k c) m
+      go : (m : ℕ) → (m ≡ 0 → ⊥) → version_at js vs (m - 1) c ≡ Some x → (m, x) ≡ E.search start (λ k. version_at js vs k c) m
       go zero n e = absurd (n refl)
       go (suc m) n e = let s : suc m - 1 ≡ m = omega arith in rw (rw s at e) refl
 
@@ -225,7 +225,7 @@ module _ (js : List Journal) (vs : List Versions) (start c : ℕ) where
   find_lower zero r w n e q h = absurd (n refl)
   find_lower (suc t) r w n e q h =
       let s : suc t - 1 ≡ t = omega arith in
-      let z : version_at js vs t c ≡ none = rw s at (sym e ∙ ap value_of q) in
+      let z : version_at js vs t c ≡ None = rw s at (sym e ∙ ap value_of q) in
       rw z (rw s at h)
 
 pub find_showing : (js : List Journal) (vs : List Versions) (n : ℕ) → ShowingBelow js vs n → (n ≡ 0 → ⊥) → Showing (get_or js (n - 1) no_journal) (get_or vs (n - 1) no_versions)

@@ -1,8 +1,7 @@
 -- The serial run: a store is one entry more over the table, a job's writes make the job alone, and job after job makes the whole run.
 use mathlib.Core.Path.{◌≡◌, refl, ap, sym, ◌∙◌}
 use mathlib.Core.Bool.{Bool, true, false, cond}
-use mathlib.Core.Option
-use mathlib.Core.Option.{Option, none, some}
+use Rattle.std.specs.Prelude.{Option, None, Some, unwrap_or}
 use mathlib.Core.List.{List, [], ◌∷◌, ◌++◌}
 use Prim.Native.Nat.{ℕ, zero, suc, ◌+◌, ◌≤◌, ◌<◌}
 use native.Mathlib.Omega.{arith}
@@ -44,21 +43,21 @@ use Rattle.turns.proofs.Laws.Accepted.{jobs_of, jobs_long, job_is_lem, accepted,
 
 -- ---- writes in order
 -- the last value of a journal, from its front
-value_front : (x : E.Entry) (es : List E.Entry) (c : ℕ) → last_value (x ∷ es) c ≡ or_else (last_value es c) (cond (eqb x.cell c) (some x.value) none)
+value_front : (x : E.Entry) (es : List E.Entry) (c : ℕ) → last_value (x ∷ es) c ≡ or_else (last_value es c) (cond (eqb x.cell c) (Some x.value) None)
 value_front x es c = go (last_at es c) (eqb x.cell c)
   where
-    go : (o : Option ℕ) (t : Bool) → E.value_at (x ∷ es) (or_else (next o) (cond t (some zero) none)) ≡ or_else (E.value_at es o) (cond t (some x.value) none)
-    go (some k) t = refl
-    go none true = refl
-    go none false = refl
+    go : (o : Option ℕ) (t : Bool) → E.value_at (x ∷ es) (or_else (next o) (cond t (Some zero) None)) ≡ or_else (E.value_at es o) (cond t (Some x.value) None)
+    go (Some k) t = refl
+    go None true = refl
+    go None false = refl
 
 -- .. and of one that ends in e
-value_end : (es : List E.Entry) (e : E.Entry) (c : ℕ) → last_value (es ++ (e ∷ [])) c ≡ cond (eqb e.cell c) (some e.value) (last_value es c)
+value_end : (es : List E.Entry) (e : E.Entry) (c : ℕ) → last_value (es ++ (e ∷ [])) c ≡ cond (eqb e.cell c) (Some e.value) (last_value es c)
 value_end [] e c = value_front e [] c
 value_end (x ∷ es) e c = value_front x (es ++ (e ∷ [])) c ∙ rw (value_end es e c, value_front x es c) (go (eqb e.cell c))
   where
-    go : (t : Bool) → or_else (cond t (some e.value) (last_value es c)) (cond (eqb x.cell c) (some x.value) none)
-        ≡ cond t (some e.value) (or_else (last_value es c) (cond (eqb x.cell c) (some x.value) none))
+    go : (t : Bool) → or_else (cond t (Some e.value) (last_value es c)) (cond (eqb x.cell c) (Some x.value) None)
+        ≡ cond t (Some e.value) (or_else (last_value es c) (cond (eqb x.cell c) (Some x.value) None))
     go true = refl
     go false = refl
 
@@ -66,10 +65,10 @@ value_end (x ∷ es) e c = value_front x (es ++ (e ∷ [])) c ∙ rw (value_end 
 store : (es : List E.Entry) (T : ℕ → ℕ) (e : E.Entry) (table : List ℕ) → e.cell < length table → cells_of table ≡ over es T → cells_of (set table e.cell e.value) ≡ over (es ++ (e ∷ [])) T
 store es T e table l q j c = at c j
   where
-    at : (c : ℕ) → get_or (set table e.cell e.value) c 0 ≡ Option.get_or (last_value (es ++ (e ∷ [])) c) (T c)
+    at : (c : ℕ) → get_or (set table e.cell e.value) c 0 ≡ unwrap_or (last_value (es ++ (e ∷ [])) c) (T c)
     at c = rw (value_end es e c) (go (ℕ_discrete e.cell c))
       where
-        go : Dec (e.cell ≡ c) → get_or (set table e.cell e.value) c 0 ≡ Option.get_or (cond (eqb e.cell c) (some e.value) (last_value es c)) (T c)
+        go : Dec (e.cell ≡ c) → get_or (set table e.cell e.value) c 0 ≡ unwrap_or (cond (eqb e.cell c) (Some e.value) (last_value es c)) (T c)
         go (yes w) = rw (eq-eqb _ _ w) (rw (← w) (get_or-set_same table e.cell e.value 0 l))
         go (no w) = rw (ne_eqb _ _ w) (get_or-set_other table e.cell c e.value 0 (λ z. w (sym z)) ∙ (λ i. q i c))
 

@@ -1,7 +1,6 @@
 -- The settled table: the count is the plain engine's, and the table is written cell by cell with what it finds.
 use mathlib.Core.Path.{◌≡◌, refl, ap, sym, ◌∙◌, fun_ext}
-use mathlib.Core.Option
-use mathlib.Core.Option.{Option, none, some}
+use Rattle.std.specs.Prelude.{Option, None, Some, unwrap_or}
 use mathlib.Core.Bool.{Bool, true, false, not, cond}
 use mathlib.Core.List.{List, [], ◌∷◌, ◌++◌, map, map-append}
 use Prim.Native.Nat.{ℕ, zero, suc, ◌+◌, ◌-◌, ◌≤◌, ◌<◌}
@@ -109,7 +108,7 @@ module _ (j : Journal) (v : Versions) (before table : List ℕ) (k : ℕ) where
         cut_at = let w : suc (k - 1) ≡ k = omega arith in cut v (k - 1) s.numbers (omega arith) ∙ rw w refl
 
         at : (c : ℕ) → Dec (c ≡ e.cell.0) → get_or (set table e.cell.0 e.value) c 0
-            ≡ Option.get_or (E.value_at (journal_of j) (cond (eqb e.cell.0 c) (some (get_or v.numbers (k - 1) 0)) (E.shown_at (journal_of j) (drop k (versions_of v)) c))) (get_or before c 0)
+            ≡ unwrap_or (E.value_at (journal_of j) (cond (eqb e.cell.0 c) (Some (get_or v.numbers (k - 1) 0)) (E.shown_at (journal_of j) (drop k (versions_of v)) c))) (get_or before c 0)
         at c (yes q) = rw (eq-eqb e.cell.0 c (sym q), ← ee) (rw q (get_or-set_same table e.cell.0 e.value 0 shows_cell))
         at c (no q) = rw (ne_eqb e.cell.0 c (λ z. q (sym z))) (get_or-set_other table e.cell.0 c e.value 0 q ∙ (λ i. h i c))
 
@@ -146,13 +145,13 @@ module _ (b : Block) (f k : ℕ) (table : List ℕ) (g : Found-to b f k table) w
   unfolding cell_found found_in E.search version_at
   found_on after l h = record { upto = omega arith; few = g.few; can = g.can; size = h.size; cells = rw (add-one k) (fun_ext at) }
     where
-      one : (o : Option ℕ) (lower : ℕ × ℕ) → Option.get_or o lower.1 ≡ (E.found o k lower).1
-      one (some x) lower = refl
-      one none lower = refl
+      one : (o : Option ℕ) (lower : ℕ × ℕ) → unwrap_or o lower.1 ≡ (E.found o k lower).1
+      one (Some x) lower = refl
+      one None lower = refl
 
       at : (c : ℕ) → get_or after c 0 ≡ cell_found b (suc k) c
       at c =
-          ap (λ (t : ℕ → ℕ). t c) h.cells ∙ ap (λ (t : ℕ → ℕ). Option.get_or (version_at b.journals b.versions k c) (t c)) g.cells
+          ap (λ (t : ℕ → ℕ). t c) h.cells ∙ ap (λ (t : ℕ → ℕ). unwrap_or (version_at b.journals b.versions k c) (t c)) g.cells
           ∙ one (version_at b.journals b.versions k c) (found_in b.journals b.versions (get_or b.start c 0) c k)
 
   pub found_end : f ≤ k → table ≡ tab 256 (cell_found b f)
