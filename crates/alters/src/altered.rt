@@ -1,252 +1,184 @@
 // A block in work with one thing altered. Job k has ticket k + 1, and its checkpoints stand from 8 * k on.
-ghost use Rattle.std.specs.Prelude.{◌<◌};
+ghost use Rattle.std.specs.Prelude.{◌<◌, ◌*◌};
+ghost use Rattle.machine.specs.Limits.{FEW, JOBS, LONGEST};
 
-use machine::counts::{Cell, Ticket};
-use machine::job::{Job, State};
+use machine::counts::{Cell, Place, Ticket};
+use machine::job::Job;
 use rules::block::{Block, Checkpoint, Entry, Program, Read};
 
-pub(crate) fn with_count(b: Block, count: u8) -> Block {
-    let mut r = b;
-    r.count = count;
-    r
+pub(crate) fn with_count(mut b: Block, count: u8) -> Block {
+    b.count = count;
+    b
 }
 
 // So many jobs, all final and all as the second stands.
 pub(crate) fn with_jobs(b: Block, count: u8) -> Block {
-    let job = b.jobs[1];
-    let state = b.states[1];
-    let journal = b.journals[1];
-    let versions = b.versions[1];
-    let reads = b.reads[1];
-    let checkpoint = b.checkpoints[8];
-    let start = b.start;
     Block {
-        start: start,
-        count: count,
-        jobs: [job; Job::MOST as usize],
-        states: [state; Job::MOST as usize],
+        start: b.start,
+        count,
+        jobs: [b.jobs[1]; Job::MOST as usize],
+        states: [b.states[1]; Job::MOST as usize],
         status: [Block::FINAL; Job::MOST as usize],
-        journals: [journal; Job::MOST as usize],
-        versions: [versions; Job::MOST as usize],
-        reads: [reads; Job::MOST as usize],
-        checkpoints: [checkpoint; Block::SLOTS * (Job::MOST as usize)],
+        journals: [b.journals[1]; Job::MOST as usize],
+        versions: [b.versions[1]; Job::MOST as usize],
+        reads: [b.reads[1]; Job::MOST as usize],
+        checkpoints: [b.checkpoints[Block::SLOTS]; Block::SLOTS * (Job::MOST as usize)],
     }
 }
 
-pub(crate) fn with_status(b: Block, k: usize, status: u8) -> Block
-    requires { k < 16 }
+pub(crate) fn with_status(mut b: Block, k: usize, status: u8) -> Block
+    requires { k < JOBS }
 {
-    let mut r = b;
-    r.status[k] = status;
-    r
+    b.status[k] = status;
+    b
 }
 
-pub(crate) fn with_size(b: Block, k: usize, size: u8) -> Block
-    requires { k < 16 }
+pub(crate) fn with_size(mut b: Block, k: usize, size: u8) -> Block
+    requires { k < JOBS }
 {
-    let mut j = b.jobs[k];
-    j.size = size;
-    let mut r = b;
-    r.jobs[k] = j;
-    r
+    b.jobs[k].size = size;
+    b
 }
 
 // The job has so many instructions, each STOP.
-pub(crate) fn with_stops(b: Block, k: usize, size: u8) -> Block
-    requires { k < 16 }
+pub(crate) fn with_stops(mut b: Block, k: usize, size: u8) -> Block
+    requires { k < JOBS }
 {
-    let mut r = b;
-    r.jobs[k] = Program {
+    b.jobs[k] = Program {
         codes: [0; Job::LONGEST as usize],
         arguments: [0; Job::LONGEST as usize],
         pushed: [0; Job::LONGEST as usize],
-        size: size,
+        size,
     };
-    r
+    b
 }
 
 pub(crate) fn with_instruction(
-    b: Block,
+    mut b: Block,
     k: usize,
     place: usize,
     code: u8,
     argument: u8,
     pushed: u64,
 ) -> Block
-    requires { (k < 16) × (place < 64) }
+    requires { (k < JOBS) × (place < LONGEST) }
 {
-    let mut j = b.jobs[k];
-    j.codes[place] = code;
-    j.arguments[place] = argument;
-    j.pushed[place] = pushed;
-    let mut r = b;
-    r.jobs[k] = j;
-    r
+    b.jobs[k].codes[place] = code;
+    b.jobs[k].arguments[place] = argument;
+    b.jobs[k].pushed[place] = pushed;
+    b
 }
 
-fn placed(s: State, place: u8) -> State {
-    let mut r = s;
-    r.place.0 = place;
-    r
-}
-
-fn raised(s: State, height: u8) -> State {
-    let mut r = s;
-    r.stack.height = height;
-    r
-}
-
-pub(crate) fn at_place(b: Block, k: usize, place: u8) -> Block
-    requires { k < 16 }
+pub(crate) fn at_place(mut b: Block, k: usize, place: u8) -> Block
+    requires { k < JOBS }
 {
-    let s = b.states[k];
-    let mut r = b;
-    r.states[k] = placed(s, place);
-    r
+    b.states[k].place = Place(place);
+    b
 }
 
-pub(crate) fn at_height(b: Block, k: usize, height: u8) -> Block
-    requires { k < 16 }
+pub(crate) fn at_height(mut b: Block, k: usize, height: u8) -> Block
+    requires { k < JOBS }
 {
-    let s = b.states[k];
-    let mut r = b;
-    r.states[k] = raised(s, height);
-    r
+    b.states[k].stack.height = height;
+    b
 }
 
 // A journal of so many entries, all for cell 5.
-pub(crate) fn with_journal(b: Block, k: usize, size: u8) -> Block
-    requires { k < 16 }
+pub(crate) fn with_journal(mut b: Block, k: usize, size: u8) -> Block
+    requires { k < JOBS }
 {
-    let e = Entry {
+    let entry = Entry {
         cell: Cell(5),
         value: 7,
     };
-    let mut j = b.journals[k];
-    j.entries = [e; Job::FEW as usize];
-    j.size = size;
-    let mut r = b;
-    r.journals[k] = j;
-    r
+    b.journals[k].entries = [entry; Job::FEW as usize];
+    b.journals[k].size = size;
+    b
 }
 
-pub(crate) fn with_entry_cell(b: Block, k: usize, at: usize, cell: u16) -> Block
-    requires { (k < 16) × (at < 8) }
+pub(crate) fn with_entry_cell(mut b: Block, k: usize, at: usize, cell: u16) -> Block
+    requires { (k < JOBS) × (at < FEW) }
 {
-    let mut j = b.journals[k];
-    j.entries[at] = Entry {
+    b.journals[k].entries[at] = Entry {
         cell: Cell(cell),
         value: 7,
     };
-    let mut r = b;
-    r.journals[k] = j;
-    r
+    b
 }
 
 // So many versions, all of the first entry.
-pub(crate) fn with_versions(b: Block, k: usize, size: u8) -> Block
-    requires { k < 16 }
+pub(crate) fn with_versions(mut b: Block, k: usize, size: u8) -> Block
+    requires { k < JOBS }
 {
-    let mut v = b.versions[k];
-    v.numbers = [0; Job::FEW as usize];
-    v.size = size;
-    let mut r = b;
-    r.versions[k] = v;
-    r
+    b.versions[k].numbers = [0; Job::FEW as usize];
+    b.versions[k].size = size;
+    b
 }
 
-pub(crate) fn with_version(b: Block, k: usize, at: usize, entry: u8) -> Block
-    requires { (k < 16) × (at < 8) }
+pub(crate) fn with_version(mut b: Block, k: usize, at: usize, entry: u8) -> Block
+    requires { (k < JOBS) × (at < FEW) }
 {
-    let mut v = b.versions[k];
-    v.numbers[at] = entry;
-    let mut r = b;
-    r.versions[k] = v;
-    r
+    b.versions[k].numbers[at] = entry;
+    b
 }
 
 // So many listed reads, all of one cell and after checkpoints at the job's start.
-pub(crate) fn with_reads(b: Block, k: usize, size: u8, cell: u16) -> Block
-    requires { k < 16 }
+pub(crate) fn with_reads(mut b: Block, k: usize, size: u8, cell: u16) -> Block
+    requires { k < JOBS }
 {
     let read = Read {
         cell: Cell(cell),
         source: Ticket(0),
         value: 3,
     };
-    let state = Job::fresh();
     let checkpoint = Checkpoint {
-        state: state,
+        state: Job::fresh(),
         writes: 0,
         listed: 0,
     };
-    let mut list = b.reads[k];
-    list.reads = [read; Job::FEW as usize];
-    list.size = size;
-    let mut r = b;
-    r.reads[k] = list;
-    r.checkpoints = [checkpoint; Block::SLOTS * (Job::MOST as usize)];
-    r
+    b.reads[k].reads = [read; Job::FEW as usize];
+    b.reads[k].size = size;
+    b.checkpoints = [checkpoint; Block::SLOTS * (Job::MOST as usize)];
+    b
 }
 
-pub(crate) fn with_read(b: Block, k: usize, at: usize, cell: u16, source: u8) -> Block
-    requires { (k < 16) × (at < 8) }
+pub(crate) fn with_read(mut b: Block, k: usize, at: usize, cell: u16, source: u8) -> Block
+    requires { (k < JOBS) × (at < FEW) }
 {
-    let mut list = b.reads[k];
-    list.reads[at] = Read {
+    b.reads[k].reads[at] = Read {
         cell: Cell(cell),
         source: Ticket(source),
         value: 3,
     };
-    let mut r = b;
-    r.reads[k] = list;
-    r
+    b
 }
 
-pub(crate) fn with_mark(b: Block, k: usize, mark: u8) -> Block
-    requires { k < 16 }
+pub(crate) fn with_mark(mut b: Block, k: usize, mark: u8) -> Block
+    requires { k < JOBS }
 {
-    let mut list = b.reads[k];
-    list.mark = mark;
-    let mut r = b;
-    r.reads[k] = list;
-    r
+    b.reads[k].mark = mark;
+    b
 }
 
 // A checkpoint that names so many journal entries and listed reads.
-pub(crate) fn naming(b: Block, at: usize, writes: u8, listed: u8) -> Block
-    requires { at < 128 }
+pub(crate) fn naming(mut b: Block, at: usize, writes: u8, listed: u8) -> Block
+    requires { at < FEW * JOBS }
 {
-    let mut c = b.checkpoints[at];
-    c.writes = writes;
-    c.listed = listed;
-    let mut r = b;
-    r.checkpoints[at] = c;
-    r
+    b.checkpoints[at].writes = writes;
+    b.checkpoints[at].listed = listed;
+    b
 }
 
-fn with_checkpoint_state(b: Block, at: usize, s: State) -> Block
-    requires { at < 128 }
+pub(crate) fn checkpoint_at_place(mut b: Block, at: usize, place: u8) -> Block
+    requires { at < FEW * JOBS }
 {
-    let mut c = b.checkpoints[at];
-    c.state = s;
-    let mut r = b;
-    r.checkpoints[at] = c;
-    r
+    b.checkpoints[at].state.place = Place(place);
+    b
 }
 
-pub(crate) fn checkpoint_at_place(b: Block, at: usize, place: u8) -> Block
-    requires { at < 128 }
+pub(crate) fn checkpoint_at_height(mut b: Block, at: usize, height: u8) -> Block
+    requires { at < FEW * JOBS }
 {
-    let c = b.checkpoints[at];
-    let s = c.state;
-    with_checkpoint_state(b, at, placed(s, place))
-}
-
-pub(crate) fn checkpoint_at_height(b: Block, at: usize, height: u8) -> Block
-    requires { at < 128 }
-{
-    let c = b.checkpoints[at];
-    let s = c.state;
-    with_checkpoint_state(b, at, raised(s, height))
+    b.checkpoints[at].state.stack.height = height;
+    b
 }

@@ -8,28 +8,23 @@ mod codes;
 mod jobs;
 mod lists;
 mod needs;
-mod same;
 mod tell;
 
 use crate::codes::try_codes;
 use crate::jobs::try_jobs;
 use crate::lists::try_lists;
 use crate::needs::try_needs;
-use crate::tell::say;
-use machine::counts::Ticket;
+use machine::counts::{Cell, Ticket};
 use rules::block::Block;
 use std::io;
 use std::io::Write;
-use turns::open::{Opened, Opening, open};
+use turns::open::{Opened, open};
 use turns::turn::turn;
 
 fn played(b: Block, tickets: &[u8]) -> Block {
-    let mut r = b;
-    for ticket in tickets {
-        let turned = turn(r, Ticket(*ticket));
-        r = turned.block;
-    }
-    r
+    tickets
+        .iter()
+        .fold(b, |b, ticket| turn(b, Ticket(*ticket)).block)
 }
 
 // In the midway block both jobs run; in the other job 1 is final, and job 2 has ended and is marked at its only read.
@@ -44,7 +39,7 @@ fn try_all<O: Write>(out: &mut O, fresh: Block) -> io::Result<()> {
 
 // Job 1: PUSH 7, PUSH 5, WRITE, STOP. Job 2: PUSH 5, READ, PUSH 6, WRITE, STOP. Cell 5 starts at 3.
 fn open_paper() -> Opened {
-    let mut start = [0u64; 256];
+    let mut start = [0; Cell::COUNT as usize];
     start[5] = 3;
     let paper = b"\x10\x24\0\
         \x02\x07\0\0\0\0\0\0\0\
@@ -62,11 +57,9 @@ fn open_paper() -> Opened {
 
 fn main(rt: HostRuntime) -> io::Result<()> {
     let mut out = rt.stdout();
-    let opened = open_paper();
-    let answer = opened.answer;
-    let fresh = opened.block;
+    let Opened { block, answer } = open_paper();
     match answer {
-        Opening::Accepted => try_all(&mut out, fresh),
-        _ => say(&mut out, b"refused\n"),
+        Ok(()) => try_all(&mut out, block),
+        Err(_) => writeln!(out, "refused"),
     }
 }

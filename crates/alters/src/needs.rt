@@ -4,7 +4,7 @@ use crate::altered::{
     at_height, at_place, with_instruction, with_journal, with_mark, with_reads, with_size,
     with_status,
 };
-use crate::tell::{say_number, tell};
+use crate::tell::tell;
 use machine::instruction::Instruction;
 use rules::block::Block;
 use std::io;
@@ -12,11 +12,26 @@ use std::io::Write;
 
 // Ticket 1 at an instruction, with a stack of so many.
 fn try_need<O: Write>(out: &mut O, b: Block, code: u8, operand: u8, height: u8) -> io::Result<()> {
-    say_number(out, b"at code ", code as u64)?;
-    say_number(out, b" operand ", operand as u64)?;
-    say_number(out, b" with a stack of ", height as u64)?;
-    let at = with_instruction(b, 0, 2, code, operand, operand as u64);
-    tell(out, b"", at_height(at, 0, height), 1)
+    let at = with_instruction(b, 0, 2, code, operand, u64::from(operand));
+    tell(
+        out,
+        format_args!("at code {code} operand {operand} with a stack of {height}"),
+        at_height(at, 0, height),
+        1,
+    )
+}
+
+fn try_heights<O: Write>(
+    out: &mut O,
+    b: Block,
+    code: u8,
+    operand: u8,
+    heights: &[u8],
+) -> io::Result<()> {
+    for height in heights {
+        try_need(out, b, code, operand, *height)?;
+    }
+    Ok(())
 }
 
 fn try_no_needs<O: Write>(out: &mut O, b: Block) -> io::Result<()> {
@@ -25,67 +40,66 @@ fn try_no_needs<O: Write>(out: &mut O, b: Block) -> io::Result<()> {
     try_need(out, b, Instruction::JUMP, 3, 0)
 }
 
-fn try_one_entry<O: Write>(out: &mut O, b: Block, code: u8, operand: u8) -> io::Result<()> {
-    try_need(out, b, code, operand, 0)?;
-    try_need(out, b, code, operand, 1)
+fn try_one_entry<O: Write>(out: &mut O, b: Block) -> io::Result<()> {
+    try_heights(out, b, Instruction::POP, 0, &[0, 1])?;
+    try_heights(out, b, Instruction::READ, 0, &[0, 1])?;
+    try_heights(out, b, Instruction::JUMPZERO, 3, &[0, 1])
 }
 
-fn try_two_entries<O: Write>(out: &mut O, b: Block, code: u8) -> io::Result<()> {
-    try_need(out, b, code, 0, 1)?;
-    try_need(out, b, code, 0, 2)
+fn try_two_entries<O: Write>(out: &mut O, b: Block) -> io::Result<()> {
+    for code in [
+        Instruction::ADD,
+        Instruction::SUB,
+        Instruction::LESS,
+        Instruction::EQUAL,
+        Instruction::WRITE,
+    ] {
+        try_heights(out, b, code, 0, &[1, 2])?;
+    }
+    Ok(())
 }
 
 // What is pushed needs room.
 fn try_depths<O: Write>(out: &mut O, b: Block) -> io::Result<()> {
-    try_need(out, b, Instruction::PUSH, 9, 15)?;
-    try_need(out, b, Instruction::PUSH, 9, 16)?;
-    try_need(out, b, Instruction::DUP, 15, 14)?;
-    try_need(out, b, Instruction::DUP, 15, 15)?;
-    try_need(out, b, Instruction::DUP, 15, 16)?;
-    try_need(out, b, Instruction::SWAP, 15, 15)?;
-    try_need(out, b, Instruction::SWAP, 15, 16)
+    try_heights(out, b, Instruction::PUSH, 9, &[15, 16])?;
+    try_heights(out, b, Instruction::DUP, 15, &[14, 15, 16])?;
+    try_heights(out, b, Instruction::SWAP, 15, &[15, 16])
 }
 
 fn try_entries<O: Write>(out: &mut O, b: Block) -> io::Result<()> {
     try_no_needs(out, b)?;
-    try_one_entry(out, b, Instruction::POP, 0)?;
-    try_one_entry(out, b, Instruction::READ, 0)?;
-    try_one_entry(out, b, Instruction::JUMPZERO, 3)?;
-    try_two_entries(out, b, Instruction::ADD)?;
-    try_two_entries(out, b, Instruction::SUB)?;
-    try_two_entries(out, b, Instruction::LESS)?;
-    try_two_entries(out, b, Instruction::EQUAL)?;
-    try_two_entries(out, b, Instruction::WRITE)?;
+    try_one_entry(out, b)?;
+    try_two_entries(out, b)?;
     try_depths(out, b)?;
     tell(
         out,
-        b"ticket 1 at WRITE with a stack of 0",
+        "ticket 1 at WRITE with a stack of 0",
         at_height(b, 0, 0),
         2,
     )
 }
 
 fn try_next_places<O: Write>(out: &mut O, b: Block) -> io::Result<()> {
-    tell(out, b"WRITE at the last place", with_size(b, 0, 3), 1)?;
-    tell(out, b"STOP at the last place", at_place(b, 0, 3), 1)
+    tell(out, "WRITE at the last place", with_size(b, 0, 3), 1)?;
+    tell(out, "STOP at the last place", at_place(b, 0, 3), 1)
 }
 
 // A READ of the job's own entry, or of a cell that it lists, needs no room.
 fn try_rooms<O: Write>(out: &mut O, b: Block) -> io::Result<()> {
     let full = with_reads(b, 1, 8, 6);
-    tell(out, b"WRITE with a journal of 7", with_journal(b, 0, 7), 1)?;
-    tell(out, b"WRITE with a journal of 8", with_journal(b, 0, 8), 1)?;
-    tell(out, b"READ with a list of 7", with_reads(b, 1, 7, 6), 2)?;
-    tell(out, b"READ with a list of 8", full, 2)?;
+    tell(out, "WRITE with a journal of 7", with_journal(b, 0, 7), 1)?;
+    tell(out, "WRITE with a journal of 8", with_journal(b, 0, 8), 1)?;
+    tell(out, "READ with a list of 7", with_reads(b, 1, 7, 6), 2)?;
+    tell(out, "READ with a list of 8", full, 2)?;
     tell(
         out,
-        b"READ of a listed cell with a list of 8",
+        "READ of a listed cell with a list of 8",
         with_reads(b, 1, 8, 5),
         2,
     )?;
     tell(
         out,
-        b"READ of an own entry with a list of 8",
+        "READ of an own entry with a list of 8",
         with_journal(full, 1, 1),
         2,
     )
@@ -96,33 +110,33 @@ fn try_at_rest<O: Write>(out: &mut O, b: Block) -> io::Result<()> {
     let marked = at_place(b, 1, 3);
     tell(
         out,
-        b"final at WRITE with a stack of 0",
+        "final at WRITE with a stack of 0",
         at_place(b, 0, 2),
         1,
     )?;
     tell(
         out,
-        b"marked at WRITE with a stack of 0",
+        "marked at WRITE with a stack of 0",
         with_status(marked, 1, 0),
         2,
     )?;
     tell(
         out,
-        b"ended at WRITE with a stack of 0",
+        "ended at WRITE with a stack of 0",
         with_mark(marked, 1, 255),
         2,
     )?;
     tell(
         out,
-        b"running at WRITE with a stack of 0",
+        "running at WRITE with a stack of 0",
         with_status(with_mark(marked, 1, 255), 1, 0),
         2,
     )
 }
 
 pub(crate) fn try_needs<O: Write>(out: &mut O, midway: Block, ended: Block) -> io::Result<()> {
-    tell(out, b"midway", midway, 1)?;
-    tell(out, b"midway", midway, 2)?;
+    tell(out, "midway", midway, 1)?;
+    tell(out, "midway", midway, 2)?;
     try_entries(out, midway)?;
     try_next_places(out, midway)?;
     try_rooms(out, midway)?;

@@ -14,6 +14,7 @@ const WRONG_LENGTH: u32 = 15;
 // Opens a paper and takes the turns of a list of tickets, a byte for each. An opening that is refused answers as garvolish_open
 // does; then 15 if there is not a byte for each. The bytes are then as they were.
 #[unsafe(no_mangle)]
+#[tactic(auto, using(turns::specs::Going::all_written), unfolding(crate::specs::Hands::if_opened, turns::specs::Many::if_long))]
 pub extern "C" fn garvolish_by_value(
     start: &[u64],
     paper: &[u8],
@@ -23,8 +24,7 @@ pub extern "C" fn garvolish_by_value(
     ensures { HandsOver start.now paper.now tickets.now words.old result words.new }
 {
     let opened = open(start, paper);
-    let answer = opened.answer;
-    let number = number_of_opening(answer);
+    let number = number_of_opening(opened.answer);
     if number != 0 {
         return number;
     }
@@ -32,14 +32,10 @@ pub extern "C" fn garvolish_by_value(
         return WRONG_LENGTH;
     }
     let mut block = opened.block;
-    let mut k: usize = 0;
-    while k < tickets.len() {
-        let at = k;
-        k = k + 1;
-        let done = turn(block, Ticket(tickets[at]));
-        let word = done.word;
-        words[at] = word.byte();
-        block = done.block;
+    for (k, ticket) in tickets.iter().enumerate() {
+        let turned = turn(block, Ticket(*ticket));
+        words[k] = turned.word.byte();
+        block = turned.block;
     }
     0
 }

@@ -1,2 +1,2 @@
--- One law for each return of the code, over plain variables; a function's laws stand in one ruleset.
+-- One law for each return of the code, over plain variables.
 pub mod Finish

@@ -1,81 +1,59 @@
 // A paper opened, a list of tickets given their turns, and the table settled.
-ghost use Rattle.std.specs.Prelude.{◌≡◌, true, length};
-ghost use Rattle.theory.specs.Engine.{block_fits};
-ghost use Rattle.machine.specs.Limits.{CELLS};
-ghost use Rattle.rules.specs.Box.{box, limits};
-ghost use Rattle.rules.specs.Block.{block_of};
-ghost use Rattle.demands.specs.Finish.{TurnsSettle, Finishes};
+ghost use Rattle.std.specs.Prelude.{◌≡◌};
+ghost use Rattle.demands.specs.Finish.{opening_as, Finishes};
+ghost use Rattle.demands.specs.declared.finish.FinishRefusal.TheVariants.{WrongLength as NotAsLong};
 
-use machine::counts::{Cell, Place};
-use machine::paper::Field;
-use machine::verdict::Fault;
-use rules::block::Block;
-use turns::many::{Taking, take_turns};
-use turns::open::{Opening, open};
+use machine::counts::Cell;
+use machine::paper::Refusal;
+use turns::many::{WrongLength, take_turns};
+use turns::open::{OpenRefusal, open};
 use turns::settled::settled_table;
 
-#[derive(Clone, Copy)]
-pub enum Finishing {
-    Settled,
+// 12 for either table, the checker's refusal of the paper, 15 for the bytes lent.
+#[derive(Clone, Copy, PartialEq, Eq)]
+pub enum FinishRefusal {
     WrongTable,
-    Refused(Fault, Field, Place),
+    Paper(Refusal),
     WrongLength,
 }
 
-// With the number of final jobs; a refusal has none, and leaves the bytes and the table as they were.
-#[derive(Clone, Copy)]
-pub struct Finished {
-    pub answer: Finishing,
-    pub f: u8,
-}
+impl From<OpenRefusal> for FinishRefusal {
+    ghost from_gives = { λ e r. r ≡ opening_as e };
 
-// The tickets take their turns in order, with a byte lent for each, and the table is settled.
-fn settle_turned(b: Block, tickets: &[u8], words: &mut [u8], table: &mut [u64]) -> Finished
-    requires { (block_fits limits box (block_of b) ≡ true) × (length table.old ≡ CELLS) }
-    ensures { TurnsSettle (block_of b) tickets.now words.old table.old result words.new table.new }
-{
-    let taken = take_turns(b, tickets, words);
-    let answer = taken.answer;
-    let Taking::Taken = answer else {
-        return Finished {
-            answer: Finishing::WrongLength,
-            f: 0,
-        };
-    };
-    let settled = settled_table(taken.block, table);
-    Finished {
-        answer: Finishing::Settled,
-        f: settled.f,
+    fn from(refusal: OpenRefusal) -> FinishRefusal {
+        match refusal {
+            OpenRefusal::WrongTable => FinishRefusal::WrongTable,
+            OpenRefusal::Paper(refusal) => FinishRefusal::Paper(refusal),
+        }
     }
 }
 
-// 12 for either table, then the paper's refusals, then 15 for the bytes; else the turns are taken and the table settled.
+impl From<WrongLength> for FinishRefusal {
+    ghost from_gives = { λ _ r. r ≡ NotAsLong };
+
+    fn from(_refusal: WrongLength) -> FinishRefusal {
+        FinishRefusal::WrongLength
+    }
+}
+
+// The number of final jobs. 12 for either table, then the paper's refusals, then 15 for the bytes, each before anything is written;
+// else the turns are taken and the table settled.
 pub fn finish(
     start: &[u64],
     paper: &[u8],
     tickets: &[u8],
     words: &mut [u8],
     table: &mut [u64],
-) -> Finished
+) -> Result<u8, FinishRefusal>
     ensures { Finishes start.now paper.now tickets.now words.old table.old result words.new table.new }
 {
-    if table.len() != (Cell::COUNT as usize) {
-        return Finished {
-            answer: Finishing::WrongTable,
-            f: 0,
-        };
+    if table.len() != Cell::COUNT as usize {
+        return Err(FinishRefusal::WrongTable);
     }
     let opened = open(start, paper);
-    let answer = opened.answer;
-    match answer {
-        Opening::Accepted => settle_turned(opened.block, tickets, words, table),
-        Opening::WrongTable => Finished {
-            answer: Finishing::WrongTable,
-            f: 0,
-        },
-        Opening::Refused(fault, field, place) => Finished {
-            answer: Finishing::Refused(fault, field, place),
-            f: 0,
-        },
-    }
+    opened.answer?;
+    let taken = take_turns(opened.block, tickets, words);
+    taken.answer?;
+    let f = settled_table(taken.block, table).unwrap();
+    Ok(f)
 }

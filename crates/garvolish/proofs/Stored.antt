@@ -1,7 +1,7 @@
 -- A store into a part of what lies behind a reference: the part comes out of the whole in memory, and goes back with its new value.
 -- Parts nest: a field lies within a block, and an element within a field that is an array.
 use mathlib.Core.Path.{◌≡◌, refl, sym, ap, subst, ◌∙◌}
-use Prim.Native.Nat.{ℕ, zero, suc, ◌+◌, ◌*◌, ◌<◌}
+use Prim.Native.Nat.{ℕ, zero, ◌+◌, ◌*◌, ◌<◌}
 use mathlib.Core.Option.{some}
 use mathlib.Core.List.{List, [], ◌∷◌, map}
 use lib.Dec.{T}
@@ -34,6 +34,7 @@ use borrow.Table.OneValue.{One, part_in, part_out}
 use borrow.Rule.Slice.Shared.{parts-cells}
 use denote.Struct.Loose.{loosens}
 use borrow.Struct.Behind.{put_at_lem}
+use Rattle.std.proofs.lemmas.List.{map-set}
 use Rattle.rules.specs.declared.block.Block.{Block}
 use Rattle.rules.specs.contracts.block.Block as B
 use Rattle.rules.proofs.block.Block.TheLaws as B'
@@ -45,11 +46,6 @@ Fs = (B.the_type).parts
 -- the block with x as its k-th field
 abbrev pub with_field : (k : ℕ) → (FieldAt Fs k).Value → Block → Block
 with_field k x h = (B.struct).make (put_at Fs k x ((B.struct).as_values h)) tt
-
-map_set : {X Y : Type 0} (f : X → Y) (xs : List X) (i : ℕ) (y : X) → set (map f xs) i (f y) ≡ map f (set xs i y)
-map_set f [] i y = refl
-map_set f (x ∷ xs) zero y = refl
-map_set {Y = Y} f (x ∷ xs) (suc i) y = ap (λ (zs : List Y). f x ∷ zs) (map_set f xs i y)
 
 -- the whole h in memory at o holds the part f at e; with f' in its place it is h'
 pub record Within {M : Type 1} {𝓤 : Ura M} (𝓛 : Logic 𝓤) (R F : RattleType) (h h' : R.Denot) (f f' : F.Denot) (b o e : ℕ) : Type 1 where
@@ -88,7 +84,7 @@ module _ {M : Type 1} {𝓤 : Ura M} (𝓛 : Logic 𝓤) where
     elements : length zs ≡ n → ent 𝓤 (sem 𝓛 (cells (mem F.row) (set zs i (F.into y)) b e)) (sem 𝓛 (Part zs'))
     elements l = qed 𝓛 (‵ (cells (mem F.row) (set zs i (F.into y)) b e) ∷ []) {P = sem 𝓛 (Part zs')} (
         rewrite ! 0 (λ (G : Fml). ‵ G) (sym (parts-cells F.row full_share (set zs i (F.into y)) b e)) refl $ feq_i ! ℕ (length (set zs i (F.into y))) n (length-set zs i (F.into y) ∙ l) $ fjoin ! $
-        use1 𝓛 (‵ (Part (set zs i (F.into y)))) (Array-whole 𝓛 F.row full_share n (set zs i (F.into y)) b e) $ rewrite ! 0 (λ (us : List F.row.Denot). ‵ (Part us)) (map_set F.into xs i y) refl $ done !)
+        use1 𝓛 (‵ (Part (set zs i (F.into y)))) (Array-whole 𝓛 F.row full_share n (set zs i (F.into y)) b e) $ rewrite ! 0 (λ (us : List F.row.Denot). ‵ (Part us)) (sym (map-set F.into xs i y)) refl $ done !)
 
     item_in : i < n → i * size (lone F.row.mir) ≡ p → Within 𝓛 R (Array F.row n) h h' (map F.into xs) (map F.into (set xs i y)) b o e
         → Within 𝓛 R F.row h h' (get_or (map F.into xs) i (F.into y)) (F.into y) b o (p + e)

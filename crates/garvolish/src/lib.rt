@@ -7,18 +7,16 @@ ghost use Rattle.std.specs.Prelude.{◌≡◌};
 ghost use Rattle.garvolish.specs.Numbers.{TurnsTo, TakesTo, OpensTo, SettlesTo, ServesTo};
 ghost use Rattle.garvolish.specs.Version.{VERSION, SIZE};
 
-use crate::number::{
-    SECOND, THIRD, number_of_word, open_number, serial_number, settled_number, take_number,
-};
+use crate::number::{number_of_word, open_number, serial_number, settled_number, take_number};
 use machine::counts::Ticket;
 use rules::block::Block;
 use turns::turn::change_of;
 
-const MAJOR: u32 = 0;
+const MAJOR: u8 = 0;
 
-const MINOR: u32 = 13;
+const MINOR: u8 = 13;
 
-const PATCH: u32 = 0;
+const PATCH: u8 = 0;
 
 // The block becomes a paper's, every job fresh; or a refusal, and then a block with no jobs and an all-zero table.
 pub fn garvolish_open(block: &mut Block, start: &[u64], paper: &[u8]) -> u32
@@ -33,16 +31,14 @@ pub fn garvolish_open(block: &mut Block, start: &[u64], paper: &[u8]) -> u32
 pub fn garvolish_turn(block: &mut Block, ticket: u8) -> u32
     ensures { TurnsTo block.old ticket result block.new }
 {
-    let c = change_of(*block, Ticket(ticket));
-    let i = c.index;
-    let slot = c.slot;
-    block.states[i] = c.state;
-    block.status[i] = c.status;
-    block.journals[i] = c.journal;
-    block.versions[i] = c.versions;
+    let c = change_of(block, Ticket(ticket));
+    block.states[c.index] = c.state;
+    block.status[c.index] = c.status;
+    block.journals[c.index] = c.journal;
+    block.versions[c.index] = c.versions;
     let reads = c.reads;
     block.reads = reads;
-    block.checkpoints[slot] = c.saved;
+    block.checkpoints[c.slot] = c.saved;
     number_of_word(c.word)
 }
 
@@ -73,7 +69,7 @@ pub fn garvolish_run_serially(start: &[u64], output: &mut [u64], paper: &[u8]) -
 pub fn garvolish_version() -> u32
     ensures { result ≡ VERSION }
 {
-    THIRD * MAJOR + SECOND * MINOR + PATCH
+    u32::from_le_bytes([PATCH, MINOR, MAJOR, 0])
 }
 
 // The bytes of a block.

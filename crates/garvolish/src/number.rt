@@ -1,20 +1,17 @@
 // The engine's answers as numbers, still by value.
-ghost use Rattle.std.specs.Prelude.{◌≡◌, ◌≤◌};
+ghost use Rattle.std.specs.Prelude.{◌≡◌};
 ghost use Rattle.machine.specs.View.{number};
 ghost use Rattle.turns.specs.Many.{taking_of};
 ghost use Rattle.turns.specs.Open.{opening_of};
-ghost use Rattle.turns.specs.Settled.{refusal_of};
 ghost use Rattle.rules.specs.Turn.{word_of};
 ghost use Rattle.garvolish.specs.Numbers.{word_number, packed, TakesTo, OpensTo, SettlesTo, ServesTo};
 
-use machine::counts::Place;
-use machine::paper::Field;
-use machine::verdict::Fault;
+use machine::paper::Refusal;
 use rules::block::Block;
-use turns::many::{Taking, take_turns};
-use turns::open::{Opening, open};
+use turns::many::{WrongLength, take_turns};
+use turns::open::{OpenRefusal, open};
 use turns::serial::run_serially;
-use turns::settled::{Settling, settled_table};
+use turns::settled::{SettleRefusal, settled_table};
 use words::word::Word;
 
 // An answer, and the block after it.
@@ -25,57 +22,49 @@ pub(crate) struct Numbered {
 }
 
 // A refusal's number, and any other word's byte.
+#[tactic(auto, unfolding(crate::specs::Numbers::word_number))]
 pub(crate) fn number_of_word(word: Word) -> u32
     ensures { result ≡ word_number (word_of word) }
 {
     let refused = word.refusal();
     if refused == 0 {
-        let byte = word.byte();
-        return byte as u32;
+        u32::from(word.byte())
+    } else {
+        u32::from(refused)
     }
-    refused as u32
 }
 
-// What the second and the third byte of an answer count for.
-pub(crate) const SECOND: u32 = 256;
-
-pub(crate) const THIRD: u32 = 65536;
-
-// A refusal's number, field and place in one number, a byte for each.
-fn pack(fault: Fault, field: Field, place: Place) -> u32
-    ensures { result ≡ packed (number fault, field.0, place.0) }
+// A paper's refusal: its number, field and place in one number, a byte for each.
+fn pack(refusal: Refusal) -> u32
+    ensures { result ≡ packed (number refusal.fault, refusal.field.0, refusal.place.0) }
 {
-    let n = fault.number();
-    n as u32 + SECOND * (field.0 as u32) + THIRD * (place.0 as u32)
+    let Refusal {
+        fault,
+        field,
+        place,
+    } = refusal;
+    u32::from_le_bytes([fault.number(), field.0, place.0, 0])
 }
 
 // An opening's refusal; 0 for none.
-pub fn number_of_opening(answer: Opening) -> u32
+#[tactic(auto, unfolding(turns::specs::Open::opening_of))]
+pub fn number_of_opening(answer: Result<(), OpenRefusal>) -> u32
     ensures { result ≡ packed (opening_of answer) }
 {
     match answer {
-        Opening::Accepted => 0,
-        Opening::WrongTable => 12,
-        Opening::Refused(fault, field, place) => pack(fault, field, place),
+        Ok(()) => 0,
+        Err(OpenRefusal::WrongTable) => 12,
+        Err(OpenRefusal::Paper(refusal)) => pack(refusal),
     }
 }
 
-fn number_of_settling(answer: Settling) -> u32
-    ensures { (result ≡ refusal_of answer) × (result ≤ 20) }
-{
-    match answer {
-        Settling::Written => 0,
-        Settling::WrongTable => 12,
-        Settling::Misfit => 20,
-    }
-}
-
-fn number_of_taking(answer: Taking) -> u32
+#[tactic(auto, unfolding(turns::specs::Many::taking_of))]
+fn number_of_taking(answer: Result<(), WrongLength>) -> u32
     ensures { result ≡ taking_of answer }
 {
     match answer {
-        Taking::Taken => 0,
-        Taking::WrongLength => 15,
+        Ok(()) => 0,
+        Err(WrongLength) => 15,
     }
 }
 
@@ -83,11 +72,9 @@ pub(crate) fn open_number(start: &[u64], paper: &[u8]) -> Numbered
     ensures { OpensTo start.now paper.now result.number result.block }
 {
     let opened = open(start, paper);
-    let answer = opened.answer;
-    let block = opened.block;
     Numbered {
-        block: block,
-        number: number_of_opening(answer),
+        block: opened.block,
+        number: number_of_opening(opened.answer),
     }
 }
 
@@ -95,26 +82,26 @@ pub(crate) fn take_number(b: Block, tickets: &[u8], words: &mut [u8]) -> Numbere
     ensures { TakesTo b tickets.now words.old result.number result.block words.new }
 {
     let taken = take_turns(b, tickets, words);
-    let answer = taken.answer;
-    let block = taken.block;
     Numbered {
-        block: block,
-        number: number_of_taking(answer),
+        block: taken.block,
+        number: number_of_taking(taken.answer),
     }
 }
 
-// The refusal's number, and f in the next byte.
+// The refusal's number, or f in the next byte.
+#[tactic(auto, unfolding(turns::specs::Settled::refusal_of, turns::specs::Settled::f_of))]
 pub(crate) fn settled_number(b: Block, table: &mut [u64]) -> u32
     ensures { SettlesTo b table.old result table.new }
 {
-    let settled = settled_table(b, table);
-    let answer = settled.answer;
-    number_of_settling(answer) + SECOND * (settled.f as u32)
+    match settled_table(b, table) {
+        Ok(f) => u32::from_le_bytes([0, f, 0, 0]),
+        Err(SettleRefusal::WrongTable) => 12,
+        Err(SettleRefusal::Misfit) => 20,
+    }
 }
 
 pub(crate) fn serial_number(start: &[u64], output: &mut [u64], paper: &[u8]) -> u32
     ensures { ServesTo start.now output.old paper.now result output.new }
 {
-    let answer = run_serially(start, output, paper);
-    number_of_opening(answer)
+    number_of_opening(run_serially(start, output, paper))
 }

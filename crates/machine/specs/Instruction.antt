@@ -1,6 +1,8 @@
 -- Document 01, "The block paper": what an instruction's code and operand tell by themselves. Tables go by code, 0 to 13.
 use Rattle.std.specs.Prelude.{ℕ, ◌+◌, ◌-◌, Bool, true, false, cond, not, ◌&&◌, ◌||◌, List, [], ◌∷◌, ◌==◌, nat_le, nat_lt, slice_index, slice_index_or}
 use Rattle.machine.specs.declared.instruction.Instruction.{Instruction}
+use Rattle.machine.specs.declared.instruction.Column.{Column}
+use Rattle.machine.specs.declared.instruction.Column.TheVariants.{Zero, Any, Depth, Later}
 
 abbrev pub STOP : ℕ
 STOP = 0
@@ -40,6 +42,13 @@ changes = 2 ∷ 2 ∷ 3 ∷ 1 ∷ 3 ∷ 2 ∷ 1 ∷ 1 ∷ 1 ∷ 1 ∷ 2 ∷ 0 �
 -- the operand's column. 0: it is 0; 1: any; 2: 1 to 15; 3: a later place in the job
 abbrev pub columns : List ℕ
 columns = 0 ∷ 0 ∷ 1 ∷ 0 ∷ 2 ∷ 2 ∷ 0 ∷ 0 ∷ 0 ∷ 0 ∷ 0 ∷ 0 ∷ 3 ∷ 3 ∷ []
+
+-- the column's number in that table
+abbrev pub column_number : Column → ℕ
+column_number Zero = 0
+column_number Any = 1
+column_number Depth = 2
+column_number Later = 3
 
 -- refusal 5 begins at code 14
 unfoldable pub known : Instruction → Bool

@@ -1,6 +1,6 @@
 -- What the structs of the code stand for: a stack is the list of its entries, top first; a job is the list of its instructions.
 -- Entries past a count stand for nothing.
-use Rattle.std.specs.Prelude.{◌≡◌, ℕ, zero, suc, ◌+◌, ◌<◌, List, [], ◌∷◌, map, length, replicate, slice_index, refl}
+use Rattle.std.specs.Prelude.{◌≡◌, ℕ, zero, suc, ◌<◌, List, [], ◌∷◌, map, length, replicate, slice_index, Result, Ok, Err, refl}
 use Rattle.std.proofs.Common.{ap, arith}
 use Rattle.theory.specs.Lists.{firsts}
 use Rattle.theory.specs.Promise.{Act, nothing, read, write, stop, abandon, stuck}
@@ -11,15 +11,12 @@ use Rattle.machine.specs.declared.job.Stack.{Stack}
 use Rattle.machine.specs.declared.job.State.{State as CodeState}
 use Rattle.machine.specs.declared.job.Job.{Job}
 use Rattle.machine.specs.Verdict.{Finding, sound, fault}
-use Rattle.machine.specs.Paper.{Answer, jobs, refused, job_count, field_of, job_of, size}
-use Rattle.machine.specs.declared.paper.Verdict.{Verdict}
-use Rattle.machine.specs.declared.paper.Verdict.TheVariants.{Accepted, Refused as RefusedPaper}
-use Rattle.machine.specs.declared.paper.Checked.{Checked}
-use Rattle.machine.specs.declared.paper.Taken.{Taken}
+use Rattle.machine.specs.Paper.{Answer, jobs, refused, job_count, field_of, job_of}
+use Rattle.machine.specs.declared.paper.Jobs.{Jobs as CodeJobs}
+use Rattle.machine.specs.declared.paper.Refusal.{Refusal}
 use Rattle.machine.specs.declared.verdict.Fault.{Fault}
 use Rattle.machine.specs.declared.verdict.Fault.TheVariants.{Head, Tag, Jobs, Length, Code, Operand, LeadsOn, NotLed, Entries, Heights, TooMany}
-use Rattle.machine.specs.declared.verdict.Check.{Check}
-use Rattle.machine.specs.declared.verdict.Check.TheVariants.{Passes, Refused}
+use Rattle.machine.specs.declared.verdict.Flaw.{Flaw}
 use Rattle.machine.specs.declared.step.Act.{Act as CodeAct}
 use Rattle.machine.specs.declared.step.Act.TheVariants.{Nothing, Read, Write, Stop, Abandon, Stuck}
 
@@ -85,25 +82,30 @@ number_some Entries = omega arith
 number_some Heights = omega arith
 number_some TooMany = omega arith
 
-unfoldable pub finding_of : Check → Finding
-finding_of Passes = sound
-finding_of (Refused f p) = fault (number f) p.0
+-- what a check tells: nothing found, whatever it hands on then, or a fault at a place
+unfoldable pub finding_of : {T : Type 0} → Result T Flaw → Finding
+finding_of (Ok t) = sound
+finding_of (Err e) = fault (number e.fault) e.place.0
 
--- what looking at a field gives, where bs are the bytes from its start `at` on
-pub record Takes (more : ℕ) (bs : List ℕ) (at : ℕ) (r : Taken) : Type 0 where
-  pub check : finding_of r.check ≡ field_of more bs
-  pub job : r.check ≡ Passes → code_of r.job ≡ job_of bs
-  pub next : r.check ≡ Passes → r.next ≡ at + 3 + size bs
+-- what looking at a field gives, where bs are the bytes from its start on
+pub record Takes (more : ℕ) (bs : List ℕ) (r : Result Job Flaw) : Type 0 where
+  pub check : finding_of r ≡ field_of more bs
+  pub job : (j : Job) → r ≡ Ok j → code_of j ≡ job_of bs
 
 -- a job past the array's end
 abbrev pub no_job : Job
 no_job = record { code = []; size = 0 }
 
 -- what the checker's answer stands for
-abbrev pub answer_of : Verdict → ℕ → List Job → Answer
-answer_of Accepted n js = jobs (map code_of (firsts n no_job js))
-answer_of (RefusedPaper f g p) n js = refused (number f) g.0 p.0
+abbrev pub answer_of : Result CodeJobs Refusal → Answer
+answer_of (Ok js) = jobs (map code_of (firsts js.count no_job js.jobs))
+answer_of (Err e) = refused (number e.fault) e.field.0 e.place.0
 
-pub record Answers (r : Checked) (a : Answer) : Type 0 where
-  pub answer : answer_of r.verdict r.count r.jobs ≡ a
-  pub count : r.count ≡ job_count a
+-- the jobs that it hands on: none of a refused paper
+abbrev pub count_of : Result CodeJobs Refusal → ℕ
+count_of (Ok js) = js.count
+count_of (Err e) = 0
+
+pub record Answers (r : Result CodeJobs Refusal) (a : Answer) : Type 0 where
+  pub answer : answer_of r ≡ a
+  pub count : count_of r ≡ job_count a

@@ -1,5 +1,5 @@
 // Numbers in bytes.
-ghost use Rattle.std.specs.Prelude.{◌≡◌, ◌<◌, ◌≤◌, length, if◌then◌else◌, nat_le};
+ghost use Rattle.std.specs.Prelude.{◌≡◌, ◌≤◌, length, if◌then◌else◌, nat_le};
 ghost use Rattle.machine.specs.Paper.{little};
 
 // What a byte counts for in the number of those before it.
@@ -8,21 +8,13 @@ const BASE: u64 = 256;
 // Bytes in a number of 64 bits.
 const WIDEST: usize = 8;
 
-fn wide(x: u8) -> u64
-    ensures { (result ≡ x) × (result < 256) }
-{
-    x as u64
-}
-
 fn gathered(bytes: &[u8]) -> u64
     requires { length bytes.now ≤ 8 }
     ensures { result ≡ little bytes.now }
 {
-    let mut n = bytes.len();
-    let mut number: u64 = 0;
-    while 0 < n {
-        n = n - 1;
-        number = wide(bytes[n]) + BASE * number;
+    let mut number = 0;
+    for n in (0..bytes.len()).rev() {
+        number = u64::from(bytes[n]) + BASE * number;
     }
     number
 }
@@ -32,7 +24,8 @@ pub fn little_of(bytes: &[u8]) -> u64
     ensures { result ≡ (if nat_le (length bytes.now) 8 then little bytes.now else 0) }
 {
     if WIDEST < bytes.len() {
-        return 0;
+        0
+    } else {
+        gathered(bytes)
     }
-    gathered(bytes)
 }

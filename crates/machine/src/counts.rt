@@ -3,15 +3,15 @@ ghost use Rattle.std.specs.Prelude.{◌≡◌};
 ghost use Rattle.machine.specs.Machine.{cell_of};
 
 #[repr(C)]
-#[derive(Clone, Copy)]
+#[derive(Clone, Copy, PartialEq, Eq, PartialOrd, Ord)]
 pub struct Ticket(pub u8);
 
 #[repr(C)]
-#[derive(Clone, Copy)]
+#[derive(Clone, Copy, PartialEq, Eq, PartialOrd, Ord)]
 pub struct Cell(pub u16);
 
 #[repr(C)]
-#[derive(Clone, Copy)]
+#[derive(Clone, Copy, PartialEq, Eq, PartialOrd, Ord)]
 pub struct Place(pub u8);
 
 impl Cell {
@@ -21,6 +21,6 @@ impl Cell {
     pub fn named(number: u64) -> Cell
         ensures { result.0 ≡ cell_of number }
     {
-        Cell((number % (Cell::COUNT as u64)) as u16)
+        Cell((number % u64::from(Cell::COUNT)) as u16)
     }
 }

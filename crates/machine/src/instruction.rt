@@ -1,14 +1,23 @@
 // An instruction, and what its code and operand tell of it by themselves.
-ghost use Rattle.std.specs.Prelude.{◌≡◌, nat_le, slice_index};
-ghost use Rattle.machine.specs.Instruction.{needs, changes, columns, known, fits, leads_on, jumps, need, after};
+ghost use Rattle.std.specs.Prelude.{◌≡◌, nat_le, slice_index, slice_index_or};
+ghost use Rattle.machine.specs.Instruction.{columns, column_number, known, fits, leads_on, jumps, need, after};
 
 use crate::counts::Place;
 
 #[repr(C)]
-#[derive(Clone, Copy)]
+#[derive(Clone, Copy, PartialEq, Eq)]
 pub struct Instruction {
     pub code: u8,
     pub operand: u64,
+}
+
+// What an operand is to be: 0; any number; 1 to 15; a later place in the job.
+#[derive(Clone, Copy, PartialEq, Eq)]
+enum Column {
+    Zero,
+    Any,
+    Depth,
+    Later,
 }
 
 // By code: the entries needed, where DUP and SWAP need their operand's number more.
@@ -18,16 +27,22 @@ const NEEDS: [u8; Instruction::CODES] = [0, 0, 0, 1, 0, 1, 2, 2, 2, 2, 1, 2, 0, 
 const CHANGES: [u8; Instruction::CODES] = [2, 2, 3, 1, 3, 2, 1, 1, 1, 1, 2, 0, 2, 1];
 
 // By code: the operand's column.
-const COLUMNS: [u8; Instruction::CODES] = [0, 0, 1, 0, 2, 2, 0, 0, 0, 0, 0, 0, 3, 3];
-
-// The columns: the operand is 0; any number; 1 to 15; a later place in the job.
-const ZERO: u8 = 0;
-
-const ANY: u8 = 1;
-
-const DEPTH: u8 = 2;
-
-const LATER: u8 = 3;
+const COLUMNS: [Column; Instruction::CODES] = [
+    Column::Zero,
+    Column::Zero,
+    Column::Any,
+    Column::Zero,
+    Column::Depth,
+    Column::Depth,
+    Column::Zero,
+    Column::Zero,
+    Column::Zero,
+    Column::Zero,
+    Column::Zero,
+    Column::Zero,
+    Column::Later,
+    Column::Later,
+];
 
 // The greatest operand of DUP and SWAP.
 const DEEPEST: u64 = 15;
@@ -69,40 +84,27 @@ impl Instruction {
     pub const BYTES: usize = 9;
 
     // Not above the last code.
+    #[tactic(auto, unfolding(crate::specs::Instruction::known))]
     pub fn known(self) -> bool
         ensures { result ≡ known self }
     {
         self.code <= Instruction::LAST
     }
 
-    fn least(self) -> u8
-        ensures { result ≡ slice_index needs self.code }
+    // Its row of a table by code, or what stands past the table.
+    fn row<T: Copy>(self, table: &[T; Instruction::CODES], past: T) -> T
+        ensures { result ≡ slice_index_or table.now self.code past }
     {
-        let code = self.code;
-        if Instruction::LAST < code {
-            return 0;
+        match table.get(usize::from(self.code)) {
+            Some(row) => *row,
+            None => past,
         }
-        NEEDS[code as usize]
     }
 
-    fn change(self) -> u8
-        ensures { result ≡ slice_index changes self.code }
+    fn column(self) -> Column
+        ensures { column_number result ≡ slice_index columns self.code }
     {
-        let code = self.code;
-        if Instruction::LAST < code {
-            return 0;
-        }
-        CHANGES[code as usize]
-    }
-
-    fn column(self) -> u8
-        ensures { result ≡ slice_index columns self.code }
-    {
-        let code = self.code;
-        if Instruction::LAST < code {
-            return 0;
-        }
-        COLUMNS[code as usize]
+        self.row(&COLUMNS, Column::Zero)
     }
 
     // Whether the operand is in its column, at a place of a job of so many instructions.
@@ -110,73 +112,48 @@ impl Instruction {
         ensures { result ≡ fits size place.0 self }
     {
         let x = self.operand;
-        let column = self.column();
-        match column {
-            ZERO => x == 0,
-            ANY => true,
-            DEPTH => {
-                if x < 1 {
-                    return false;
-                }
-                x <= DEEPEST
-            }
-            LATER => {
-                if x <= place.0 as u64 {
-                    return false;
-                }
-                x < size as u64
-            }
-            _ => false,
+        match self.column() {
+            Column::Zero => x == 0,
+            Column::Any => true,
+            Column::Depth => 1 <= x && x <= DEEPEST,
+            Column::Later => u64::from(place.0) < x && x < u64::from(size),
         }
     }
 
     // Whether it leads to the next place.
+    #[tactic(auto, unfolding(crate::specs::Instruction::leads_on))]
     pub fn leads_on(self) -> bool
         ensures { result ≡ leads_on self }
     {
-        let code = self.code;
-        match code {
-            Instruction::STOP => false,
-            Instruction::ABANDON => false,
-            Instruction::JUMP => false,
-            _ => true,
-        }
+        !matches!(
+            self.code,
+            Instruction::STOP | Instruction::ABANDON | Instruction::JUMP
+        )
     }
 
     // Whether it leads to its operand's place.
+    #[tactic(auto, unfolding(crate::specs::Instruction::jumps))]
     pub fn jumps(self) -> bool
         ensures { result ≡ jumps self }
     {
-        let code = self.code;
-        match code {
-            Instruction::JUMP => true,
-            Instruction::JUMPZERO => true,
-            _ => false,
-        }
+        matches!(self.code, Instruction::JUMP | Instruction::JUMPZERO)
     }
 
     // Whether a stack of this height has the entries that it needs.
+    #[tactic(auto, unfolding(crate::specs::Instruction::need))]
     pub fn finds(self, height: u8) -> bool
         ensures { result ≡ nat_le (need self) height }
     {
-        let least = self.least();
-        if height < least {
-            return false;
-        }
-        if self.column() == DEPTH {
-            return self.operand <= (height - least) as u64;
-        }
-        true
+        let least = self.row(&NEEDS, 0);
+        least <= height
+            && (self.column() != Column::Depth || self.operand <= u64::from(height - least))
     }
 
     // The height after it.
+    #[tactic(auto, unfolding(crate::specs::Instruction::after))]
     pub fn leaves(self, height: u8) -> u16
         ensures { result ≡ after self height }
     {
-        let high = height as u16 + self.change() as u16;
-        if high < 2 {
-            return 0;
-        }
-        high - 2
+        (u16::from(height) + u16::from(self.row(&CHANGES, 0))).saturating_sub(2)
     }
 }

@@ -8,21 +8,21 @@ use crate::instruction::Instruction;
 
 // The top stands at the height's end.
 #[repr(C)]
-#[derive(Clone, Copy)]
+#[derive(Clone, Copy, PartialEq, Eq)]
 pub struct Stack {
     pub entries: [u64; Job::ROOM as usize],
     pub height: u8,
 }
 
 #[repr(C)]
-#[derive(Clone, Copy)]
+#[derive(Clone, Copy, PartialEq, Eq)]
 pub struct State {
     pub place: Place,
     pub stack: Stack,
 }
 
 #[repr(C)]
-#[derive(Clone, Copy)]
+#[derive(Clone, Copy, PartialEq, Eq)]
 pub struct Job {
     pub code: [Instruction; Job::LONGEST as usize],
     pub size: u8,

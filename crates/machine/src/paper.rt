@@ -1,17 +1,17 @@
 // The checker of a whole paper: any bytes, to the jobs or the refusal.
-ghost use Rattle.std.specs.Prelude.{◌≡◌, ◌+◌, ◌-◌, ◌*◌, ◌≤◌, [], length, drop};
-ghost use Rattle.machine.specs.Limits.{LONGEST, JOBS};
-ghost use Rattle.machine.specs.Paper.{size, instruction, instructions, frame_of, jobs, on_sound, paper_answer};
+ghost use Rattle.std.specs.Prelude.{◌≡◌, ◌+◌, ◌-◌, ◌/◌, ◌≤◌, length};
+ghost use Rattle.machine.specs.Limits.{JOBS};
+ghost use Rattle.machine.specs.Paper.{size, instruction, instructions, later, frame_of, paper_answer};
 ghost use Rattle.machine.specs.View.{code_of, finding_of, Takes, Answers};
 
 use crate::bytes;
 use crate::counts::Place;
 use crate::instruction::Instruction;
 use crate::job::Job;
-use crate::verdict::{Check, Fault, check_job};
+use crate::verdict::{Check, Fault, Flaw, check_job};
 
 // Fields count from 1.
-#[derive(Clone, Copy)]
+#[derive(Clone, Copy, PartialEq, Eq, PartialOrd, Ord)]
 pub struct Field(pub u8);
 
 impl Field {
@@ -25,96 +25,103 @@ impl Field {
     pub const LONGEST: usize = Instruction::BYTES * (Job::LONGEST as usize);
 }
 
-#[derive(Clone, Copy)]
-pub enum Verdict {
-    Accepted,
-    Refused(Fault, Field, Place),
-}
-
-// A refused paper has no jobs.
-#[derive(Clone, Copy)]
-pub struct Checked {
-    pub verdict: Verdict,
-    pub count: u8,
+// The jobs of an accepted paper.
+#[derive(Clone, Copy, PartialEq, Eq)]
+pub struct Jobs {
     pub jobs: [Job; Job::MOST as usize],
+    pub count: u8,
 }
 
-// The length of the field that starts here.
-fn size_at(paper: &[u8], at: usize) -> usize
-    requires { at + 3 ≤ length paper.now }
-    ensures { result ≡ size (drop at paper.now) }
-{
-    let from = at + 1;
-    let to = at + Field::HEAD;
-    bytes::little_of(&paper[from..to]) as usize
+// A refused paper: the fault, its field, and the place in the field's job.
+#[derive(Clone, Copy, PartialEq, Eq)]
+pub struct Refusal {
+    pub fault: Fault,
+    pub field: Field,
+    pub place: Place,
 }
 
-fn instruction_at(paper: &[u8], at: usize) -> Instruction
-    requires { at + 9 ≤ length paper.now }
-    ensures { result ≡ instruction (drop at paper.now) }
+impl Flaw {
+    fn in_field(self, field: u8) -> Refusal
+        ensures { (result.fault ≡ self.fault) × (result.field.0 ≡ field) × (result.place ≡ self.place) }
+    {
+        Refusal {
+            fault: self.fault,
+            field: Field(field),
+            place: self.place,
+        }
+    }
+}
+
+// The length of the contents of the field that starts here.
+#[tactic(auto, unfolding(crate::specs::Paper::size))]
+pub fn size_of_field(rest: &[u8]) -> usize
+    requires { 3 ≤ length rest.now }
+    ensures { result ≡ size rest.now }
 {
-    let from = at + 1;
-    let to = at + Instruction::BYTES;
-    let operand = bytes::little_of(&paper[from..to]);
+    bytes::little_of(&rest[1..Field::HEAD]) as usize
+}
+
+// What follows the field that starts here.
+#[tactic(auto, using(std::proofs::lemmas::List::take_rest), unfolding(crate::specs::Paper::later))]
+fn after_field(rest: &[u8]) -> &[u8]
+    requires { 3 + size rest.now ≤ length rest.now }
+    ensures { result.now ≡ later rest.now }
+{
+    &rest[Field::HEAD + size_of_field(rest)..]
+}
+
+// The instruction that starts here.
+#[tactic(auto, unfolding(crate::specs::Paper::instruction))]
+fn instruction_of(rest: &[u8]) -> Instruction
+    requires { 9 ≤ length rest.now }
+    ensures { result ≡ instruction rest.now }
+{
     Instruction {
-        code: paper[at],
-        operand: operand,
+        code: rest[0],
+        operand: bytes::little_of(&rest[1..Instruction::BYTES]),
     }
 }
 
-// So many instructions as a job.
-fn job_at(paper: &[u8], at: usize, n: u8) -> Job
-    requires { (n ≤ LONGEST) × (at + 9 * n ≤ length paper.now) }
-    ensures { code_of result ≡ instructions n (drop at paper.now) }
+// The job of a field's contents.
+fn job_of(contents: &[u8]) -> Job
+    requires { length contents.now ≤ 576 }
+    ensures { code_of result ≡ instructions (length contents.now / 9) contents.now }
 {
-    let stop = Instruction {
-        code: Instruction::STOP,
-        operand: 0,
-    };
-    let mut code = [stop; Job::LONGEST as usize];
-    let mut k: u8 = 0;
-    let mut from = at;
-    while k < n {
-        let i = instruction_at(paper, from);
-        code[k as usize] = i;
-        k = k + 1;
-        from = from + Instruction::BYTES;
+    let mut job = empty_job();
+    let size = contents.len() / Instruction::BYTES;
+    for k in 0..size {
+        job.code[k] = instruction_of(&contents[Instruction::BYTES * k..]);
     }
-    Job {
-        code: code,
-        size: n,
-    }
+    job.size = size as u8;
+    job
 }
 
 // 1 to 4 of the field that starts here, after so many jobs.
-fn check_frame(paper: &[u8], at: usize, count: u8) -> Check
-    requires { (at ≤ length paper.now) × (count ≤ JOBS) }
-    ensures { finding_of result ≡ frame_of (JOBS - count) (drop at paper.now) }
+#[tactic(auto, unfolding(crate::specs::Paper::frame_of, crate::specs::View::finding_of))]
+fn check_frame(rest: &[u8], count: u8) -> Check
+    requires { count ≤ JOBS }
+    ensures { finding_of result ≡ frame_of (JOBS - count) rest.now }
 {
-    let left = paper.len() - at;
-    if left < Field::HEAD {
-        return Check::Refused(Fault::Head, Place(0));
+    let place = Place(0);
+    if rest.len() < Field::HEAD {
+        return Err(Flaw {
+            fault: Fault::Head,
+            place,
+        });
     }
-    let n = size_at(paper, at);
-    if left - Field::HEAD < n {
-        return Check::Refused(Fault::Head, Place(0));
-    }
-    if paper[at] != Field::TAG {
-        return Check::Refused(Fault::Tag, Place(0));
-    }
-    if count == Job::MOST {
-        return Check::Refused(Fault::Jobs, Place(0));
-    }
-    if n == 0 {
-        return Check::Refused(Fault::Length, Place(0));
-    }
-    if Field::LONGEST < n {
-        return Check::Refused(Fault::Length, Place(0));
-    }
-    if n % Instruction::BYTES != 0 {
-        return Check::Refused(Fault::Length, Place(0));
-    }
-    Check::Passes
+    let size = size_of_field(rest);
+    let fault = if rest.len() - Field::HEAD < size {
+        Fault::Head
+    } else if rest[0] != Field::TAG {
+        Fault::Tag
+    } else if count == Job::MOST {
+        Fault::Jobs
+    } else if size == 0 || Field::LONGEST < size || size % Instruction::BYTES != 0 {
+        Fault::Length
+    } else {
+        return Ok(());
+    };
+    Err(Flaw { fault, place })
 }
 
 fn empty_job() -> Job {
@@ -128,76 +135,33 @@ fn empty_job() -> Job {
     }
 }
 
-// A field that was looked at; its job and the next field's start count where it passes.
-#[derive(Clone, Copy)]
-struct Taken {
-    check: Check,
-    job: Job,
-    next: usize,
-}
-
 // 1 to 4 of the field that starts here, and its job's verdict.
-fn take_field(paper: &[u8], at: usize, count: u8) -> Taken
-    requires { (at ≤ length paper.now) × (count ≤ JOBS) }
-    ensures { Takes (JOBS - count) (drop at paper.now) at result }
+#[tactic(auto, using(crate::specs::Framed::framed), unfolding(crate::specs::Paper::field_of, crate::specs::View::finding_of))]
+fn take_field(rest: &[u8], count: u8) -> Result<Job, Flaw>
+    requires { count ≤ JOBS }
+    ensures { Takes (JOBS - count) rest.now result }
 {
-    let frame = check_frame(paper, at, count);
-    let Check::Passes = frame else {
-        return Taken {
-            check: frame,
-            job: empty_job(),
-            next: at,
-        };
-    };
-    let n = size_at(paper, at);
-    let j = job_at(paper, at + Field::HEAD, (n / Instruction::BYTES) as u8);
-    Taken {
-        check: check_job(j),
-        job: j,
-        next: at + Field::HEAD + n,
-    }
-}
-
-// The answer where a check of this field found a fault.
-fn refuse(check: Check, field: u8) -> Checked
-    ensures { Answers result (on_sound field (finding_of check) (jobs [])) }
-{
-    let none = [empty_job(); Job::MOST as usize];
-    match check {
-        Check::Passes => Checked {
-            verdict: Verdict::Accepted,
-            count: 0,
-            jobs: none,
-        },
-        Check::Refused(f, p) => Checked {
-            verdict: Verdict::Refused(f, Field(field), p),
-            count: 0,
-            jobs: none,
-        },
-    }
+    check_frame(rest, count)?;
+    let job = job_of(&rest[Field::HEAD..Field::HEAD + size_of_field(rest)]);
+    check_job(job)?;
+    Ok(job)
 }
 
 // The jobs of a paper, or the first fault found.
-pub fn check_paper(paper: &[u8]) -> Checked
+pub fn check_paper(paper: &[u8]) -> Result<Jobs, Refusal>
     ensures { Answers result (paper_answer paper.now) }
 {
     let mut jobs = [empty_job(); Job::MOST as usize];
     let mut count: u8 = 0;
-    let mut at: usize = 0;
-    while at < paper.len() {
-        let taken = take_field(paper, at, count);
-        let check = taken.check;
-        let Check::Passes = check else {
-            return refuse(check, count + 1);
+    let mut rest = paper;
+    while !rest.is_empty() {
+        let job = match take_field(rest, count) {
+            Ok(job) => job,
+            Err(flaw) => return Err(flaw.in_field(count + 1)),
         };
-        let j = taken.job;
-        jobs[count as usize] = j;
-        count = count + 1;
-        at = taken.next;
+        jobs[count as usize] = job;
+        count += 1;
+        rest = after_field(rest);
     }
-    Checked {
-        verdict: Verdict::Accepted,
-        count: count,
-        jobs: jobs,
-    }
+    Ok(Jobs { jobs, count })
 }

@@ -1,5 +1,5 @@
 // The checker's verdict of one job.
-ghost use Rattle.std.specs.Prelude.{◌≡◌, ◌+◌, ◌<◌, ◌≤◌, true, if◌then◌else◌, nat_eq};
+ghost use Rattle.std.specs.Prelude.{◌≡◌, ◌<◌, ◌≤◌, true, length};
 ghost use Rattle.machine.specs.Limits.{LONGEST, ROOM, FEW};
 ghost use Rattle.machine.specs.Instruction.{after};
 ghost use Rattle.machine.specs.Verdict.{sound, scan, form_of, form_at, end_of, meet, bring, lead, led_of, meeting_of, found_of, height_of, entries_of, entries_at, flow_of, job_verdict};
@@ -11,19 +11,19 @@ use crate::instruction::Instruction;
 use crate::job::Job;
 
 // The refusals 1 to 11, in document 01's order.
-#[derive(Clone, Copy)]
+#[derive(Clone, Copy, PartialEq, Eq)]
 pub enum Fault {
-    Head,
-    Tag,
-    Jobs,
-    Length,
-    Code,
-    Operand,
-    LeadsOn,
-    NotLed,
-    Entries,
-    Heights,
-    TooMany,
+    Head = 1,
+    Tag = 2,
+    Jobs = 3,
+    Length = 4,
+    Code = 5,
+    Operand = 6,
+    LeadsOn = 7,
+    NotLed = 8,
+    Entries = 9,
+    Heights = 10,
+    TooMany = 11,
 }
 
 impl Fault {
@@ -31,278 +31,251 @@ impl Fault {
     pub fn number(self) -> u8
         ensures { result ≡ number self }
     {
-        match self {
-            Fault::Head => 1,
-            Fault::Tag => 2,
-            Fault::Jobs => 3,
-            Fault::Length => 4,
-            Fault::Code => 5,
-            Fault::Operand => 6,
-            Fault::LeadsOn => 7,
-            Fault::NotLed => 8,
-            Fault::Entries => 9,
-            Fault::Heights => 10,
-            Fault::TooMany => 11,
-        }
+        self as u8
     }
 }
 
-#[derive(Clone, Copy)]
-pub enum Check {
-    Passes,
-    Refused(Fault, Place),
+// A fault, and the place where it was found.
+#[derive(Clone, Copy, PartialEq, Eq)]
+pub struct Flaw {
+    pub fault: Fault,
+    pub place: Place,
 }
 
+// Nothing found, or the first flaw.
+pub type Check = Result<(), Flaw>;
+
 // What earlier places bring to a place: nobody leads there, one height, or two, of which the first is kept.
-#[derive(Clone, Copy)]
+#[derive(Clone, Copy, PartialEq, Eq)]
 pub enum Met {
     Nobody,
     Height(u8),
     Clash(u8),
 }
 
+impl Met {
+    // What is known once a height is brought.
+    fn with(self, h: u8) -> Met
+        ensures { result ≡ meet self h }
+    {
+        match self {
+            Met::Nobody => Met::Height(h),
+            Met::Height(g) if g == h => Met::Height(g),
+            Met::Height(g) | Met::Clash(g) => Met::Clash(g),
+        }
+    }
+}
+
 // 5, 6, 11 at one place of a job of so many, after so many READ and WRITE.
+#[tactic(auto, unfolding(crate::specs::Verdict::form_of, crate::specs::View::finding_of))]
 fn check_form(i: Instruction, place: Place, size: u8, reads: u8, writes: u8) -> Check
     ensures { finding_of result ≡ form_of FEW size place.0 i reads writes }
 {
     if !i.known() {
-        return Check::Refused(Fault::Code, place);
+        return Err(Flaw {
+            fault: Fault::Code,
+            place,
+        });
     }
     if !i.fits(place, size) {
-        return Check::Refused(Fault::Operand, place);
+        return Err(Flaw {
+            fault: Fault::Operand,
+            place,
+        });
     }
-    if i.code == Instruction::READ {
-        if Job::FEW <= reads {
-            return Check::Refused(Fault::TooMany, place);
-        }
-        return Check::Passes;
+    if i.code == Instruction::READ && Job::FEW <= reads
+        || i.code == Instruction::WRITE && Job::FEW <= writes
+    {
+        return Err(Flaw {
+            fault: Fault::TooMany,
+            place,
+        });
     }
-    if i.code == Instruction::WRITE {
-        if Job::FEW <= writes {
-            return Check::Refused(Fault::TooMany, place);
-        }
-        return Check::Passes;
-    }
-    Check::Passes
-}
-
-// One more if the instruction has this code.
-fn counted(k: u8, i: Instruction, code: u8) -> u8
-    requires { k < 255 }
-    ensures { result ≡ k + (if nat_eq i.code code then 1 else 0) }
-{
-    if i.code == code {
-        return k + 1;
-    }
-    k
-}
-
-// Place by place 5, 6, 11.
-fn check_forms(j: Job) -> Check
-    requires { j.size ≤ LONGEST }
-    ensures { finding_of result ≡ scan (form_at FEW (code_of j)) 0 j.size }
-{
-    let size = j.size;
-    let mut p: u8 = 0;
-    let mut reads: u8 = 0;
-    let mut writes: u8 = 0;
-    while p < size {
-        let i = j.code[p as usize];
-        let check = check_form(i, Place(p), size, reads, writes);
-        let Check::Passes = check else {
-            return check;
-        };
-        reads = counted(reads, i, Instruction::READ);
-        writes = counted(writes, i, Instruction::WRITE);
-        p = p + 1;
-    }
-    Check::Passes
-}
-
-// 7
-fn check_end(j: Job) -> Check
-    requires { (0 < j.size) × (j.size ≤ LONGEST) }
-    ensures { finding_of result ≡ end_of (code_of j) }
-{
-    let last = j.size - 1;
-    let i = j.code[last as usize];
-    if i.leads_on() {
-        return Check::Refused(Fault::LeadsOn, Place(last));
-    }
-    Check::Passes
+    Ok(())
 }
 
 // 8
+#[tactic(auto, unfolding(crate::specs::View::finding_of))]
 fn check_led(place: Place, m: Met) -> Check
     ensures { finding_of result ≡ led_of place.0 m }
 {
     match m {
-        Met::Nobody => Check::Refused(Fault::NotLed, place),
-        Met::Height(_) => Check::Passes,
-        Met::Clash(_) => Check::Passes,
+        Met::Nobody => Err(Flaw {
+            fault: Fault::NotLed,
+            place,
+        }),
+        Met::Height(_) | Met::Clash(_) => Ok(()),
     }
 }
 
 // 10
+#[tactic(auto, unfolding(crate::specs::View::finding_of))]
 fn check_meeting(place: Place, m: Met) -> Check
     ensures { finding_of result ≡ meeting_of place.0 m }
 {
     match m {
-        Met::Nobody => Check::Passes,
-        Met::Height(_) => Check::Passes,
-        Met::Clash(_) => Check::Refused(Fault::Heights, place),
+        Met::Nobody | Met::Height(_) => Ok(()),
+        Met::Clash(_) => Err(Flaw {
+            fault: Fault::Heights,
+            place,
+        }),
     }
 }
 
 // 9 at a height.
+#[tactic(auto, unfolding(crate::specs::View::finding_of))]
 fn check_found(i: Instruction, place: Place, h: u8) -> Check
     ensures { finding_of result ≡ found_of ROOM i place.0 h }
 {
-    if !i.finds(h) {
-        return Check::Refused(Fault::Entries, place);
+    if i.finds(h) && i.leaves(h) <= u16::from(Job::ROOM) {
+        Ok(())
+    } else {
+        Err(Flaw {
+            fault: Fault::Entries,
+            place,
+        })
     }
-    if (Job::ROOM as u16) < i.leaves(h) {
-        return Check::Refused(Fault::Entries, place);
-    }
-    Check::Passes
 }
 
 // 9 at the height first brought, whether or not others clash with it.
+#[tactic(auto, unfolding(crate::specs::View::finding_of))]
 fn check_height(i: Instruction, place: Place, m: Met) -> Check
     ensures { finding_of result ≡ height_of ROOM i place.0 m }
 {
     match m {
-        Met::Nobody => Check::Passes,
-        Met::Height(h) => check_found(i, place, h),
-        Met::Clash(h) => check_found(i, place, h),
+        Met::Nobody => Ok(()),
+        Met::Height(h) | Met::Clash(h) => check_found(i, place, h),
     }
 }
 
 // 8, 10, 9 at one place.
+#[tactic(auto, unfolding(crate::specs::View::finding_of))]
 fn check_entries(i: Instruction, place: Place, m: Met) -> Check
     ensures { finding_of result ≡ entries_of ROOM i place.0 m }
 {
     let led = check_led(place, m);
-    let Check::Passes = led else {
+    let Ok(()) = led else {
         return led;
     };
     let meeting = check_meeting(place, m);
-    let Check::Passes = meeting else {
+    let Ok(()) = meeting else {
         return meeting;
     };
     check_height(i, place, m)
 }
 
-// What is known of a place once a height is brought to it.
-fn met_with(m: Met, h: u8) -> Met
-    ensures { result ≡ meet m h }
-{
-    match m {
-        Met::Nobody => Met::Height(h),
-        Met::Clash(g) => Met::Clash(g),
-        Met::Height(g) => {
-            if g == h {
-                return Met::Height(g);
-            }
-            Met::Clash(g)
-        }
-    }
-}
-
-fn bring_to(known: [Met; Job::LONGEST as usize], t: u64, h: u8) -> [Met; Job::LONGEST as usize]
-    requires { t < LONGEST }
-    ensures { result ≡ bring true t h known }
-{
-    let mut k = known;
-    let m = k[t as usize];
-    k[t as usize] = met_with(m, h);
-    k
-}
-
-fn bring_if(
-    known: [Met; Job::LONGEST as usize],
-    leads: bool,
-    t: u64,
-    h: u8,
-) -> [Met; Job::LONGEST as usize]
+// What a height brought to a place makes of what is known.
+fn bring(known: &mut [Met; Job::LONGEST as usize], leads: bool, t: u64, h: u8)
     requires { leads ≡ true → t < LONGEST }
-    ensures { result ≡ bring leads t h known }
+    ensures { known.new ≡ bring leads t h known.old }
 {
-    if !leads {
-        return known;
+    if leads {
+        known[t as usize] = known[t as usize].with(h);
     }
-    bring_to(known, t, h)
 }
 
 // What an instruction that passed at its place brings to the places that it leads to.
-fn lead_from(
-    i: Instruction,
-    place: Place,
-    m: Met,
-    known: [Met; Job::LONGEST as usize],
-) -> [Met; Job::LONGEST as usize]
+fn lead_from(i: Instruction, place: Place, m: Met, known: &mut [Met; Job::LONGEST as usize])
     requires { (Fitting place.0 i) × (entries_of ROOM i place.0 m ≡ sound) }
-    ensures { result ≡ lead i place.0 m known }
+    ensures { known.new ≡ lead i place.0 m known.old }
 {
-    match m {
-        Met::Nobody => known,
-        Met::Clash(_) => known,
-        Met::Height(h) => {
-            let after = i.leaves(h) as u8;
-            let k = bring_if(known, i.leads_on(), place.0 as u64 + 1, after);
-            bring_if(k, i.jumps(), i.operand, after)
+    if let Met::Height(h) = m {
+        let after = i.leaves(h) as u8;
+        bring(known, i.leads_on(), u64::from(place.0) + 1, after);
+        bring(known, i.jumps(), i.operand, after);
+    }
+}
+
+// The instructions of a job, no more than a job may have.
+#[derive(Clone, Copy)]
+struct Code<'a> {
+    list: &'a [Instruction],
+    ghost few: { length list.now ≤ LONGEST },
+}
+
+impl Code<'_> {
+    // Place by place 5, 6, 11.
+    fn check_forms(self) -> Check
+        ensures { finding_of result ≡ scan (form_at FEW self.entry.list.now) 0 (length self.entry.list.now) }
+    {
+        let size = self.list.len() as u8;
+        let mut reads = 0;
+        let mut writes = 0;
+        for (p, i) in self.list.iter().enumerate() {
+            let check = check_form(*i, Place(p as u8), size, reads, writes);
+            let Ok(()) = check else {
+                return check;
+            };
+            reads += u8::from(i.code == Instruction::READ);
+            writes += u8::from(i.code == Instruction::WRITE);
+        }
+        Ok(())
+    }
+
+    // 7
+    #[tactic(auto, unfolding(crate::specs::Verdict::end_of, crate::specs::Instruction::leads_on, crate::specs::View::finding_of))]
+    fn check_end(self) -> Check
+        ensures { finding_of result ≡ end_of self.entry.list.now }
+    {
+        match self.list.last() {
+            Some(i) if i.leads_on() => Err(Flaw {
+                fault: Fault::LeadsOn,
+                place: Place((self.list.len() - 1) as u8),
+            }),
+            _ => Ok(()),
         }
     }
-}
 
-// Place by place 8, 10, 9.
-fn check_heights(j: Job) -> Check
-    requires { (0 < j.size) × (j.size ≤ LONGEST) × (scan (form_at FEW (code_of j)) 0 j.size ≡ sound) × (end_of (code_of j) ≡ sound) }
-    ensures { finding_of result ≡ scan (entries_at ROOM LONGEST (code_of j)) 0 j.size }
-{
-    let size = j.size;
-    let mut p: u8 = 0;
-    let mut known = [Met::Nobody; Job::LONGEST as usize];
-    known[0] = Met::Height(0);
-    while p < size {
-        let i = j.code[p as usize];
-        let m = known[p as usize];
-        let check = check_entries(i, Place(p), m);
-        let Check::Passes = check else {
-            return check;
-        };
-        known = lead_from(i, Place(p), m, known);
-        p = p + 1;
+    // Place by place 8, 10, 9.
+    fn check_heights(self) -> Check
+        requires { (scan (form_at FEW self.list.now) 0 (length self.list.now) ≡ sound) × (end_of self.list.now ≡ sound) }
+        ensures { finding_of result ≡ scan (entries_at ROOM LONGEST self.entry.list.now) 0 (length self.entry.list.now) }
+    {
+        let mut known = [Met::Nobody; Job::LONGEST as usize];
+        known[0] = Met::Height(0);
+        for (p, i) in self.list.iter().enumerate() {
+            let place = Place(p as u8);
+            let met = known[p];
+            let check = check_entries(*i, place, met);
+            let Ok(()) = check else {
+                return check;
+            };
+            lead_from(*i, place, met, &mut known);
+        }
+        Ok(())
     }
-    Check::Passes
-}
 
-// 7; then place by place 8, 10, 9.
-fn check_flow(j: Job) -> Check
-    requires { (0 < j.size) × (j.size ≤ LONGEST) × (scan (form_at FEW (code_of j)) 0 j.size ≡ sound) }
-    ensures { finding_of result ≡ flow_of LONGEST ROOM (code_of j) }
-{
-    let end = check_end(j);
-    let Check::Passes = end else {
-        return end;
-    };
-    check_heights(j)
+    // 7; then place by place 8, 10, 9.
+    #[tactic(auto, unfolding(crate::specs::Verdict::flow_of, crate::specs::View::finding_of))]
+    fn check_flow(self) -> Check
+        requires { scan (form_at FEW self.list.now) 0 (length self.list.now) ≡ sound }
+        ensures { finding_of result ≡ flow_of LONGEST ROOM self.entry.list.now }
+    {
+        let end = self.check_end();
+        let Ok(()) = end else {
+            return end;
+        };
+        self.check_heights()
+    }
 }
 
 // The first fault found in a job; 4 where it has no instruction, or too many.
+#[tactic(auto, using(theory::specs::Lists::firsts_take, theory::specs::Lists::length_firsts), unfolding(crate::specs::Verdict::verdict_of, crate::specs::Verdict::size_of, crate::specs::View::finding_of))]
 pub fn check_job(j: Job) -> Check
     ensures { finding_of result ≡ job_verdict (code_of j) }
 {
-    let size = j.size;
-    if size == 0 {
-        return Check::Refused(Fault::Length, Place(0));
+    if j.size == 0 || Job::LONGEST < j.size {
+        return Err(Flaw {
+            fault: Fault::Length,
+            place: Place(0),
+        });
     }
-    if Job::LONGEST < size {
-        return Check::Refused(Fault::Length, Place(0));
-    }
-    let forms = check_forms(j);
-    let Check::Passes = forms else {
+    let code = Code {
+        list: &j.code[..usize::from(j.size)],
+    };
+    let forms = code.check_forms();
+    let Ok(()) = forms else {
         return forms;
     };
-    check_flow(j)
+    code.check_flow()
 }

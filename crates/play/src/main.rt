@@ -2,7 +2,7 @@
 // program with its error.
 #![tactic(auto)]
 
-ghost use Rattle.std.specs.Prelude.{◌≡◌, ◌≤◌, IfOk, length};
+ghost use Rattle.std.specs.Prelude.{◌≤◌, IfOk, length};
 
 use sessions::play::play;
 use std::io;
@@ -17,20 +17,11 @@ fn read_full<I: Read>(input: &mut I, bytes: &mut [u8]) -> io::Result<usize>
         match input.read(&mut bytes[size..]) {
             Ok(0) => return Ok(size),
             Ok(n) => size += n,
-            Err(e) => {
-                if e.kind() != ErrorKind::Interrupted {
-                    return Err(e);
-                }
-            }
+            Err(e) if e.kind() == ErrorKind::Interrupted => {}
+            Err(e) => return Err(e),
         }
     }
     Ok(size)
-}
-
-// Reads what is left, so that whoever writes to us is not cut off.
-fn drain<I: Read>(input: &mut I) -> io::Result<()> {
-    io::copy(input, &mut io::sink())?;
-    Ok(())
 }
 
 // Bytes of the longest text that a session can have (`text_short`), and one more than a session may have, so that too long a one is seen.
@@ -38,18 +29,13 @@ const TEXT: usize = 204032;
 
 const INPUT: usize = 16385;
 
-fn room() -> [u8; TEXT]
-    ensures { 204032 ≡ length result }
-{
-    [0; TEXT]
-}
-
 fn main(rt: HostRuntime) -> io::Result<()> {
     let (mut stdin, mut stdout) = (rt.stdin(), rt.stdout());
-    let mut input = [0u8; INPUT];
-    let mut output = room();
+    let mut input = [0; INPUT];
+    let mut output = [0; TEXT];
     let n = read_full(&mut stdin, &mut input)?;
-    drain(&mut stdin)?;
+    // What is left is read too, so that whoever writes to us is not cut off
+    io::copy(&mut stdin, &mut io::sink())?;
     let size = play(&input[..n], &mut output);
     stdout.write_all(&output[..size])
 }

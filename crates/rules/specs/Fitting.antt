@@ -12,14 +12,14 @@ use Rattle.rules.specs.Box.{limits, box}
 use Rattle.rules.specs.Program.{no_program}
 use Rattle.rules.specs.Block.{no_state, no_checkpoint, block_of}
 use Rattle.rules.specs.View.{no_entry, Showing, number_at, number_low, number_past, mark_of, no_journal, no_versions, no_read, no_reads}
-use Rattle.rules.specs.Sizes.{passes, code_within, kept_of, stands_in, journal_within, version_within_at, versions_within, read_within, rises_from, reads_within, mark_within, job_within, job_within_at, block_is, entry_within, entry_within_at}
+use Rattle.rules.specs.Sizes.{passes, code_within, stands_in, journal_within, version_within_at, versions_within, read_within, rises_from, reads_within, mark_within, job_within, job_within_at, block_is, entry_within, entry_within_at}
 use Rattle.rules.specs.declared.block.Journal.{Journal}
 use Rattle.rules.specs.declared.block.Versions.{Versions}
 use Rattle.rules.specs.declared.block.Read.{Read}
 use Rattle.rules.specs.declared.block.Reads.{Reads}
+use Rattle.rules.specs.declared.block.Checkpoint.{Checkpoint}
 use Rattle.rules.specs.declared.block.Program.{Program}
 use Rattle.rules.specs.declared.block.Block.{Block}
-use Rattle.rules.specs.declared.sizes.Kept.{Kept}
 
 -- the job at index k: its state, its journal and versions, its reads, and for each listed read the checkpoint to go back to
 pub record Fit (b : Block) (k : ℕ) : Type 0 where
@@ -58,19 +58,19 @@ mark_within_lem m n = go (eqb m 255) refl
     go false q e = inr (ltb-true _ _ e)
 
 -- a listed read and its checkpoint, of a job of n instructions, with entries from `least` to `most`
-record ReadFit (n i least most : ℕ) (r : Read) (c : Kept) : Type 0 where
+record ReadFit (n i least most : ℕ) (r : Read) (c : Checkpoint) : Type 0 where
   listed : c.listed ≤ i
   above : least ≤ c.writes
   writes : c.writes ≤ most
 
-read_within_lem : (n before i most : ℕ) (r : Read) (c : Kept) → read_within n before i r c ≡ true → c.writes ≤ most → ReadFit n i before most r c
+read_within_lem : (n before i most : ℕ) (r : Read) (c : Checkpoint) → read_within n before i r c ≡ true → c.writes ≤ most → ReadFit n i before most r c
 unfolding read_within
 read_within_lem n before i most r c e l =
-    let a = both (ltb r.cell.0 CELLS && stands_in n c.place.0 c.height && leb c.listed i) (leb before c.writes) e in
-    let d = both (ltb r.cell.0 CELLS && stands_in n c.place.0 c.height) (leb c.listed i) a.0 in
+    let a = both (ltb r.cell.0 CELLS && stands_in n c.state.place.0 c.state.stack.height && leb c.listed i) (leb before c.writes) e in
+    let d = both (ltb r.cell.0 CELLS && stands_in n c.state.place.0 c.state.stack.height) (leb c.listed i) a.0 in
     record { listed = leb-true _ _ d.1; above = leb-true _ _ a.1; writes = l }
 
-module _ (n entries : ℕ) (rs : Reads) (cs : ℕ → Kept) where
+module _ (n entries : ℕ) (rs : Reads) (cs : ℕ → Checkpoint) where
   rises_within : (before i m : ℕ) → rises_from n entries rs cs before i m ≡ true → before ≤ entries
   unfolding rises_from
   rises_within before i zero e = leb-true _ _ e
@@ -123,11 +123,11 @@ showing j v a e =
     let few = versions_few j.size v (journal_few j a) e in
     record { entries = journal_few j a; numbers = few; named = λ i l. rw (number_low v i (omega arith)) (versions_within_lem j.size v e i l) }
 
-reads_few : (n entries : ℕ) (rs : Reads) (cs : ℕ → Kept) → reads_within n entries rs cs ≡ true → rs.size ≤ 8
+reads_few : (n entries : ℕ) (rs : Reads) (cs : ℕ → Checkpoint) → reads_within n entries rs cs ≡ true → rs.size ≤ 8
 unfolding reads_within
 reads_few n entries rs cs e = leb-true _ _ (both (leb rs.size FEW) _ e).0
 
-reads_within_lem : (n entries : ℕ) (rs : Reads) (cs : ℕ → Kept) → reads_within n entries rs cs ≡ true → (i : ℕ) → i < rs.size
+reads_within_lem : (n entries : ℕ) (rs : Reads) (cs : ℕ → Checkpoint) → reads_within n entries rs cs ≡ true → (i : ℕ) → i < rs.size
     → ReadFit n i 0 entries (get_or rs.reads i no_read) (cs i)
 unfolding reads_within
 reads_within_lem n entries rs cs e i l = rises_at n entries rs cs 0 0 rs.size (both (leb rs.size FEW) _ e).1 i (omega arith) (omega arith)
@@ -142,14 +142,14 @@ record Tested (b : Block) (k : ℕ) : Type 0 where
   state : stands_in (get_or b.jobs k no_program).size (get_or b.states k no_state).place.0 (get_or b.states k no_state).stack.height ≡ true
   journal : journal_within (get_or b.journals k no_journal) ≡ true
   versions : versions_within (get_or b.journals k no_journal).size (get_or b.versions k no_versions) ≡ true
-  reads : reads_within (get_or b.jobs k no_program).size (get_or b.journals k no_journal).size (get_or b.reads k no_reads) (λ i. kept_of (get_or b.checkpoints (8 * k + i) no_checkpoint)) ≡ true
+  reads : reads_within (get_or b.jobs k no_program).size (get_or b.journals k no_journal).size (get_or b.reads k no_reads) (λ i. get_or b.checkpoints (8 * k + i) no_checkpoint) ≡ true
   mark : mark_within (get_or b.reads k no_reads).mark (get_or b.reads k no_reads).size ≡ true
 
 tested : (b : Block) (k : ℕ) → job_within_at b k ≡ true → Tested b k
 unfolding job_within
 tested b k e =
     let a = both _ (mark_within (get_or b.reads k no_reads).mark (get_or b.reads k no_reads).size) e in
-    let c = both _ (reads_within (get_or b.jobs k no_program).size (get_or b.journals k no_journal).size (get_or b.reads k no_reads) (λ i. kept_of (get_or b.checkpoints (8 * k + i) no_checkpoint))) a.0 in
+    let c = both _ (reads_within (get_or b.jobs k no_program).size (get_or b.journals k no_journal).size (get_or b.reads k no_reads) (λ i. get_or b.checkpoints (8 * k + i) no_checkpoint)) a.0 in
     let d = both _ (versions_within (get_or b.journals k no_journal).size (get_or b.versions k no_versions)) c.0 in
     let f = both _ (journal_within (get_or b.journals k no_journal)) d.0 in
     let g = both (code_within (get_or b.jobs k no_program)) (stands_in (get_or b.jobs k no_program).size (get_or b.states k no_state).place.0 (get_or b.states k no_state).stack.height) f.0 in
@@ -157,7 +157,7 @@ tested b k e =
 
 fit : (b : Block) (k : ℕ) → Tested b k → Fit b k
 fit b k t =
-    let r = reads_within_lem _ _ (get_or b.reads k no_reads) (λ i. kept_of (get_or b.checkpoints (8 * k + i) no_checkpoint)) t.reads in
+    let r = reads_within_lem _ _ (get_or b.reads k no_reads) (λ i. get_or b.checkpoints (8 * k + i) no_checkpoint) t.reads in
     record {
       code = code_few _ t.code;
       place = stands _ _ _ t.state;

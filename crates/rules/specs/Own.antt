@@ -8,16 +8,14 @@ use Rattle.machine.specs.declared.job.State.{State}
 use Rattle.machine.specs.declared.counts.Cell.{Cell}
 use Rattle.machine.specs.declared.step.Act.TheVariants.{Read as ReadAct}
 use Rattle.machine.specs.declared.step.Stepped.{Stepped}
-use Rattle.rules.specs.Program.{program_of}
 use Rattle.rules.specs.View.{entry_of, journal_of, versions_of, no_journal, no_versions, no_reads, Showing, ShowingBelow}
 use Rattle.rules.specs.Block.{code_at, no_state, no_checkpoint}
 use Rattle.rules.specs.Steps.{StepsIn}
 use Rattle.rules.specs.Marks.{Shown, mark_reads, sweep, ListsFit}
 use Rattle.rules.specs.Moves.{Adds}
-use Rattle.rules.specs.Turn.{Did, Reading, Whole, moving}
+use Rattle.rules.specs.Turn.{Did, Reading, Whole}
 use Rattle.rules.specs.declared.block.Entry.{Entry}
 use Rattle.rules.specs.declared.block.Journal.{Journal}
-use Rattle.rules.specs.declared.block.Program.{Program}
 use Rattle.rules.specs.declared.block.Versions.{Versions}
 use Rattle.rules.specs.declared.block.Checkpoint.{Checkpoint}
 use Rattle.rules.specs.declared.block.Read.{Read}
@@ -190,17 +188,7 @@ pub record Ready (o : Own) (seen : Around) (t : ℕ) : Type 0 where
   pub list : o.list.size ≤ 8
   pub below : ShowingBelow seen.journals seen.versions (t - 1)
 
--- ---- a turn that may be refused
--- the step that the job would take, where it is not
-pub record StepsIf (refused : Bool) (code : Program) (s : State) (done : Stepped) : Type 0 where
-  pub cells : InCells done
-  pub steps : refused ≡ false → StepsIn (program_of code) s done
-
--- a refused turn leaves the parts as they were, and says so by this word
-pub record MovesIf (refused : Bool) (w : Word) (o : Own) (Q : Block → ℕ → Type 0) (m : Move) : Type 0 where
-  pub stays : refused ≡ true → m ≡ still w o
-  pub moves : refused ≡ false → Moves o Q moving m
-
+-- ---- a move that may mark
 -- where a move marks, the lists and what the job shows are fit for it
 pub record MayMark (m : Move) (o : Own) (ls : List Reads) (n i : ℕ) : Type 0 where
   pub count : m.marks ≡ true → n ≤ 16

@@ -1,5 +1,5 @@
 -- What a program stands for: the instructions of a job. The operand of a PUSH, which may be any number, stands apart from the others.
-use Rattle.std.specs.Prelude.{◌≡◌, cond, List, [], map, ℕ, ◌<◌, eqb, ltb, length, get_or, replicate}
+use Rattle.std.specs.Prelude.{◌≡◌, cond, List, [], map, ℕ, ◌<◌, eqb, length, get_or, replicate}
 use Rattle.theory.specs.Lists.{firsts, tab, length_tab, get_d_tab}
 use Rattle.machine.specs.Limits.{LONGEST, JOBS}
 use Rattle.machine.specs.Instruction.{PUSH}
@@ -31,10 +31,6 @@ packed is = record {
   pushed = tab LONGEST (λ k. pushed_of (get_or is k stopping));
   size = length is;
 }
-
--- an operand as a byte, where it fits one
-abbrev pub argument_byte : Instruction → ℕ
-argument_byte i = cond (eqb i.code PUSH) 0 (cond (ltb i.operand 256) i.operand 0)
 
 -- the operand of an instruction with this code
 abbrev pub operand_of : ℕ → ℕ → ℕ → ℕ

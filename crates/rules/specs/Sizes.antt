@@ -3,7 +3,7 @@ use Rattle.std.specs.Prelude.{◌≡◌, Bool, ◌&&◌, List, [], ◌∷◌, �
 use Rattle.std.proofs.Math.Path.{refl, ap, sym}
 use Rattle.std.proofs.Common.{◌∙◌, eqb-true}
 use Rattle.std.proofs.Math.Bool.{true, false, cond, and_assoc, and-true}
-use Prim.Native.Nat.{ℕ, zero, suc, ◌+◌, ◌*◌, ◌≤◌}
+use Prim.Native.Nat.{ℕ, zero, suc, ◌+◌, ◌*◌, ◌≤◌, ◌<◌}
 use native.Mathlib.Omega.{arith}
 use Rattle.std.proofs.Math.Dec.{eqb, leb, leb-zero}
 use Rattle.std.proofs.Math.ListN.{get_or}
@@ -27,7 +27,6 @@ use Rattle.rules.specs.declared.block.Reads.{Reads}
 use Rattle.rules.specs.declared.block.Checkpoint.{Checkpoint}
 use Rattle.rules.specs.declared.block.Program.{Program}
 use Rattle.rules.specs.declared.block.Block.{Block}
-use Rattle.rules.specs.declared.sizes.Kept.{Kept}
 
 -- ---- the tests
 -- m places from k on all pass a test
@@ -73,27 +72,23 @@ version_within_at n v k = ltb (number_at v k) n
 unfoldable pub versions_within : ℕ → Versions → Bool
 versions_within n v = passes (version_within_at n v) 0 v.size
 
--- the counts of a checkpoint
-abbrev pub kept_of : Checkpoint → Kept
-kept_of c = record { place = c.state.place; height = c.state.stack.height; writes = c.writes; listed = c.listed }
-
 -- the i-th read of a job of n instructions, where the checkpoint before its own has so many entries
-unfoldable pub read_within : ℕ → ℕ → ℕ → Read → Kept → Bool
-read_within n before i r c = ltb r.cell.0 CELLS && stands_in n c.place.0 c.height && leb c.listed i && leb before c.writes
+unfoldable pub read_within : ℕ → ℕ → ℕ → Read → Checkpoint → Bool
+read_within n before i r c = ltb r.cell.0 CELLS && stands_in n c.state.place.0 c.state.stack.height && leb c.listed i && leb before c.writes
 
 -- m reads from the i-th on, of a job of n instructions and so many entries
-unfoldable pub rises_from : ℕ → ℕ → Reads → (ℕ → Kept) → ℕ → ℕ → ℕ → Bool
+unfoldable pub rises_from : ℕ → ℕ → Reads → (ℕ → Checkpoint) → ℕ → ℕ → ℕ → Bool
 rises_from n entries rs cs before i zero = leb before entries
 rises_from n entries rs cs before i (suc m) =
     read_within n before i (get_or rs.reads i no_read) (cs i) && rises_from n entries rs cs (cs i).writes (suc i) m
 
-unfoldable pub reads_within : ℕ → ℕ → Reads → (ℕ → Kept) → Bool
+unfoldable pub reads_within : ℕ → ℕ → Reads → (ℕ → Checkpoint) → Bool
 reads_within n entries rs cs = leb rs.size FEW && rises_from n entries rs cs 0 0 rs.size
 
 unfoldable pub mark_within : ℕ → ℕ → Bool
 mark_within m n = E.mark_fits (mark_of m) n
 
-unfoldable pub job_within : Program → State → Journal → Versions → Reads → (ℕ → Kept) → Bool
+unfoldable pub job_within : Program → State → Journal → Versions → Reads → (ℕ → Checkpoint) → Bool
 job_within j s jo v rs cs =
     code_within j && stands_in j.size s.place.0 s.stack.height && journal_within jo && versions_within jo.size v && reads_within j.size jo.size rs cs && mark_within rs.mark rs.size
 
@@ -101,16 +96,16 @@ job_within j s jo v rs cs =
 abbrev pub job_within_at : Block → ℕ → Bool
 job_within_at b k =
     job_within (get_or b.jobs k no_program) (get_or b.states k no_state) (get_or b.journals k no_journal) (get_or b.versions k no_versions) (get_or b.reads k no_reads)
-    (λ i. kept_of (get_or b.checkpoints (8 * k + i) no_checkpoint))
+    (λ i. get_or b.checkpoints (8 * k + i) no_checkpoint)
 
-abbrev pub listed : List Kept → ℕ → Kept
-listed cs i = get_or cs i (kept_of no_checkpoint)
+abbrev pub listed : List Checkpoint → ℕ → Checkpoint
+listed cs i = get_or cs i no_checkpoint
 
 -- ---- they are those of the block
-passes_same : (f g : ℕ → Bool) → ((i : ℕ) → f i ≡ g i) → (k m : ℕ) → passes f k m ≡ passes g k m
+pub passes_same : (f g : ℕ → Bool) (k m : ℕ) → ((i : ℕ) → i < k + m → f i ≡ g i) → passes f k m ≡ passes g k m
 unfolding passes
-passes_same f g h k zero = refl
-passes_same f g h k (suc m) = rw (h k, passes_same f g h (suc k) m) refl
+passes_same f g k zero h = refl
+passes_same f g k (suc m) h = rw (h k (omega arith), passes_same f g (suc k) m (λ i l. h i (omega arith))) refl
 
 -- a list by its entries, from the front
 module _ {A : Type 0} where
@@ -153,19 +148,16 @@ module _ (j : Program) (code : code_within j ≡ true) (N : ℕ) (rs : Reads) (c
   abbrev read_at : ℕ → E.Read Running
   read_at i = read_of (program_of j) (get_or rs.reads i no_read) (cs i)
 
-  abbrev kept : ℕ → Kept
-  kept i = kept_of (cs i)
-
   rises_is : (before i m : ℕ) → leb before (E.writes_after limits box (span read_at i m) N) && E.reads_fit limits box N i (span read_at i m)
-      ≡ rises_from j.size N rs kept before i m
+      ≡ rises_from j.size N rs cs before i m
   unfolding rises_from read_within
   rises_is before i zero = and-true (leb before N)
   rises_is before i (suc m) =
       rw (state_fits j (cs i).state, code)
       (later (ltb (get_or rs.reads i no_read).cell.0 CELLS && stands_in j.size (cs i).state.place.0 (cs i).state.stack.height && leb (cs i).listed i) (leb before (cs i).writes) _ _
-      ∙ ap (λ (b : Bool). read_within j.size before i (get_or rs.reads i no_read) (kept i) && b) (rises_is (cs i).writes (suc i) m))
+      ∙ ap (λ (b : Bool). read_within j.size before i (get_or rs.reads i no_read) (cs i) && b) (rises_is (cs i).writes (suc i) m))
 
-  reads_are : E.reads_fit limits box N 0 (tab rs.size read_at) ≡ rises_from j.size N rs kept 0 0 rs.size
+  reads_are : E.reads_fit limits box N 0 (tab rs.size read_at) ≡ rises_from j.size N rs cs 0 0 rs.size
   reads_are =
       ap (E.reads_fit limits box N 0) (tab_span rs.size read_at)
       ∙ ap (λ (b : Bool). b && E.reads_fit limits box N 0 (span read_at 0 rs.size)) (sym (leb-zero (E.writes_after limits box (span read_at 0 rs.size) N)))
@@ -196,13 +188,13 @@ module _ (j : Program) (s : State) (jo : Journal) (v : Versions) (rs : Reads) (c
   by_code_lem : (c : Bool) → code_within j ≡ c →
       c && stands_in j.size s.place.0 s.stack.height && leb jo.size FEW && E.all (E.entry_fits limits box) (journal_of jo) && versions_within jo.size v
       && leb rs.size FEW && E.reads_fit limits box jo.size 0 (tab rs.size listing) && E.mark_fits (mark_of rs.mark) rs.size
-      ≡ c && stands_in j.size s.place.0 s.stack.height && journal_within jo && versions_within jo.size v && reads_within j.size jo.size rs (λ i. kept_of (cs i)) && mark_within rs.mark rs.size
+      ≡ c && stands_in j.size s.place.0 s.stack.height && journal_within jo && versions_within jo.size v && reads_within j.size jo.size rs cs && mark_within rs.mark rs.size
   unfolding reads_within mark_within
   by_code_lem false e = refl
   by_code_lem true e =
       rw (← journal_is jo, length_journal jo, ← reads_are j e jo.size rs cs) (grouped (stands_in j.size s.place.0 s.stack.height) _ _ _ _ _ _)
 
-  parts_are : (t : E.Status) → E.job_fits limits box (job_is t) ≡ job_within j s jo v rs (λ i. kept_of (cs i))
+  parts_are : (t : E.Status) → E.job_fits limits box (job_is t) ≡ job_within j s jo v rs cs
   unfolding E.job_fits job_within
   parts_are t = rw (state_fits j s, length_journal jo, versions_are jo.size v, length_tab rs.size listing) (by_code_lem (code_within j) refl)
 
@@ -214,10 +206,10 @@ pub block_is : (b : Block) → E.block_fits limits box (block_of b) ≡ leb b.co
 unfolding E.block_fits block_of
 block_is b =
     rw (length_tab b.count (job_of b))
-    (ap (λ (t : Bool). leb b.count JOBS && t) (all_tab (E.job_fits limits box) b.count (job_of b) ∙ passes_same _ _ (job_is_lem b) 0 b.count))
+    (ap (λ (t : Bool). leb b.count JOBS && t) (all_tab (E.job_fits limits box) b.count (job_of b) ∙ passes_same _ _ 0 b.count (λ k l. job_is_lem b k)))
 
 -- ---- the instructions, by their bytes
-passes_last : (f : ℕ → Bool) (k m : ℕ) → passes f k (suc m) ≡ f (k + m) && passes f k m
+pub passes_last : (f : ℕ → Bool) (k m : ℕ) → passes f k (suc m) ≡ f (k + m) && passes f k m
 unfolding passes
 passes_last f k zero = ap (λ (i : ℕ). f i && true) (let w : k ≡ k + 0 = omega arith in w)
 passes_last f k (suc m) =
@@ -253,4 +245,4 @@ module _ (j : Program) where
 
   pub bytes_are : bytes_within j.codes j.arguments j.size ≡ code_within j
   unfolding bytes_within code_within
-  bytes_are = rw (formed_is j.size (omega arith), passes_same _ _ keeps_is 0 j.size) refl
+  bytes_are = rw (formed_is j.size (omega arith), passes_same _ _ 0 j.size (λ k l. keeps_is k)) refl

@@ -18,8 +18,6 @@ use Rattle.rules.specs.Moves.{Sized, Held}
 use Rattle.rules.specs.declared.block.Entry.{Entry}
 use Rattle.rules.specs.declared.block.Reads.{Reads}
 use Rattle.rules.specs.declared.block.Block.{Block}
-use Rattle.words.specs.declared.word.Word.{Word}
-use Rattle.words.specs.declared.word.Word.TheVariants.{BadTicket, Stuck}
 use Rattle.rules.specs.declared.block.Turned.{Turned}
 
 -- the value of a listed read of a cell, from place k on for m reads
@@ -63,10 +61,6 @@ moving b i = E.ruled FEW box (cells b) (jobs b) i (job_of b i) (job_of b i).stat
 -- is a ticket none of a block of so many jobs?
 abbrev pub foreign : ℕ → ℕ → Bool
 foreign n t = eqb t 0 || ltb n t
-
--- the word of a refused turn: 14 before 20
-abbrev pub refusing : Bool → Word
-refusing x = cond x BadTicket Stuck
 
 -- the code's answer is this move of the job at index i; what the words leave, they leave to the last byte
 pub record Did (b : Block) (i : ℕ) (m : E.Moved Running) (r : Turned) : Type 0 where

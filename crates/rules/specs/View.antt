@@ -10,11 +10,7 @@ use Rattle.rules.specs.declared.block.Journal.{Journal}
 use Rattle.rules.specs.declared.block.Versions.{Versions}
 use Rattle.rules.specs.declared.block.Read.{Read}
 use Rattle.rules.specs.declared.block.Reads.{Reads}
-use Rattle.rules.specs.declared.journal.Found.{Found}
 use Rattle.rules.specs.declared.versions.Version.{Version}
-use Rattle.rules.specs.declared.versions.Shown.{Shown}
-use Rattle.rules.specs.declared.versions.Shown.TheVariants.{Value, Nothing}
-use Rattle.rules.specs.declared.journal.Found.TheVariants.{At, Nowhere}
 
 -- what an array holds past its end
 abbrev pub no_entry : Entry
@@ -49,10 +45,6 @@ number_past v k l = rw (le-ltb k 8 l) refl
 unfoldable pub versions_of : Versions → List ℕ
 versions_of v = tab v.size (number_at v)
 
-unfoldable pub found_of : Found → Option ℕ
-found_of (At k) = Some k
-found_of Nowhere = None
-
 abbrev pub no_journal : Journal
 no_journal = record { entries = []; size = 0 }
 
@@ -76,10 +68,6 @@ version_at js vs k c = E.value_at (journal_of (get_or js k no_journal)) (E.shown
 -- what a reader of a cell finds that has the jobs at the indices below n below it
 unfoldable pub found_in : List Journal → List Versions → ℕ → ℕ → ℕ → ℕ × ℕ
 found_in js vs start c n = E.search start (λ k. version_at js vs k c) n
-
-unfoldable pub value_of : Shown → Option ℕ
-value_of (Value v) = Some v
-value_of Nothing = None
 
 unfoldable pub version_of : Version → ℕ × ℕ
 version_of v = (v.source.0, v.value)

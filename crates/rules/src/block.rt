@@ -1,4 +1,6 @@
 // A block in work, by value and in small parts, so that a turn moves only the parts that it touches.
+ghost use Rattle.std.specs.Prelude.{◌≡◌, ◌<◌, set};
+
 use machine::counts::{Cell, Ticket};
 use machine::job::{Job, State};
 use words::word::Word;
@@ -6,7 +8,7 @@ use words::word::Word;
 // The instructions of a job, in bytes, so that the test of sizes takes many at a time. The operand of a PUSH, which may be any
 // number, stands in `pushed`, every other in `arguments`.
 #[repr(C)]
-#[derive(Clone, Copy)]
+#[derive(Clone, Copy, PartialEq, Eq)]
 pub struct Program {
     pub codes: [u8; Job::LONGEST as usize],
     pub arguments: [u8; Job::LONGEST as usize],
@@ -16,7 +18,7 @@ pub struct Program {
 
 // A write of a value to a cell.
 #[repr(C)]
-#[derive(Clone, Copy)]
+#[derive(Clone, Copy, PartialEq, Eq)]
 pub struct Entry {
     pub cell: Cell,
     pub value: u64,
@@ -24,7 +26,7 @@ pub struct Entry {
 
 // The writes of a job, in order.
 #[repr(C)]
-#[derive(Clone, Copy)]
+#[derive(Clone, Copy, PartialEq, Eq)]
 pub struct Journal {
     pub entries: [Entry; Job::FEW as usize],
     pub size: u8,
@@ -32,19 +34,14 @@ pub struct Journal {
 
 // The public versions of a job: each is the number of its journal entry.
 #[repr(C)]
-#[derive(Clone, Copy)]
+#[derive(Clone, Copy, PartialEq, Eq)]
 pub struct Versions {
     pub numbers: [u8; Job::FEW as usize],
     pub size: u8,
 }
 
-impl Versions {
-    // The number of no entry.
-    pub const NOTHING: u8 = 255;
-}
-
 #[repr(C)]
-#[derive(Clone, Copy)]
+#[derive(Clone, Copy, PartialEq, Eq)]
 pub struct Read {
     pub cell: Cell,
     pub source: Ticket,
@@ -53,7 +50,7 @@ pub struct Read {
 
 // The listed reads of a job, and the earliest marked one.
 #[repr(C)]
-#[derive(Clone, Copy)]
+#[derive(Clone, Copy, PartialEq, Eq)]
 pub struct Reads {
     pub reads: [Read; Job::FEW as usize],
     pub size: u8,
@@ -67,7 +64,7 @@ impl Reads {
 
 // The job as it was before a listed read.
 #[repr(C)]
-#[derive(Clone, Copy)]
+#[derive(Clone, Copy, PartialEq, Eq)]
 pub struct Checkpoint {
     pub state: State,
     pub writes: u8,
@@ -77,7 +74,7 @@ pub struct Checkpoint {
 // The job at index k has ticket k + 1. Its checkpoints stand from SLOTS * k on, one for each listed read. From FINAL on a status is
 // final: a turn stores no other, and an altered one is read and not refused.
 #[repr(C)]
-#[derive(Clone, Copy)]
+#[derive(Clone, Copy, PartialEq, Eq)]
 pub struct Block {
     pub start: [u64; Cell::COUNT as usize],
     pub count: u8,
@@ -103,8 +100,21 @@ impl Block {
 }
 
 // A block after a turn, and the turn's word. The block stands first, so that it is handed over in one piece.
-#[derive(Clone, Copy)]
+#[derive(Clone, Copy, PartialEq, Eq)]
 pub struct Turned {
     pub block: Block,
     pub word: Word,
+}
+
+// The n things that an array holds, and one more after them.
+pub(crate) fn pushed<T: Copy>(
+    mut items: [T; Job::FEW as usize],
+    n: u8,
+    x: T,
+) -> [T; Job::FEW as usize]
+    requires { n < 8 }
+    ensures { result ≡ set items n x }
+{
+    items[n as usize] = x;
+    items
 }

@@ -1,63 +1,70 @@
 // The journal of a job: the last entry for a cell, and one entry more.
-ghost use Rattle.std.specs.Prelude.{◌≡◌, ◌++◌, ◌∷◌, [], ◌≤◌, ◌<◌, get_or};
+ghost use Rattle.std.specs.Prelude.{◌≡◌, ◌++◌, ◌∷◌, [], ◌≤◌, ◌<◌, get_or, take, nat_eq};
+ghost use Rattle.std.specs.List.{list_any};
 ghost use Rattle.theory.specs.Engine.{no_entry, last_at};
-ghost use Rattle.rules.specs.View.{empty_journal, entry_of, journal_of, found_of};
+ghost use Rattle.rules.specs.View.{empty_journal, entry_of, journal_of};
 
-use crate::block::{Entry, Journal};
+use crate::block::{Entry, Journal, pushed};
 use machine::counts::Cell;
 use machine::job::Job;
 
-// The number of a journal entry, where there is one.
-#[derive(Clone, Copy)]
-pub enum Found {
-    At(u8),
-    Nowhere,
+// Whether one of these entries writes the cell.
+pub(crate) fn writes(entries: &[Entry], c: Cell) -> bool
+    ensures { result ≡ list_any (λ e. nat_eq e.cell.0 c.0) entries.now }
+{
+    entries.iter().any(|e| e.cell == c)
 }
 
-pub fn no_entries() -> Journal
-    ensures { (result ≡ empty_journal) × (journal_of result ≡ []) }
-{
-    let none = Entry {
-        cell: Cell(0),
-        value: 0,
-    };
-    Journal {
-        entries: [none; Job::FEW as usize],
-        size: 0,
-    }
-}
-
-pub fn entry_at(j: Journal, number: u8) -> Entry
-    requires { (j.size ≤ 8) × (number < j.size) }
-    ensures { entry_of result ≡ get_or (journal_of j) number no_entry }
-{
-    j.entries[number as usize]
-}
-
-// The number of the last entry for a cell.
-pub fn last_entry(j: Journal, c: Cell) -> Found
-    requires { j.size ≤ 8 }
-    ensures { found_of result ≡ last_at (journal_of j) c.0 }
-{
-    let mut k = j.size;
-    while 0 < k {
-        let e = j.entries[(k - 1) as usize];
-        if e.cell.0 == c.0 {
-            return Found::At(k - 1);
+impl Journal {
+    pub fn empty() -> Journal
+        ensures { (result ≡ empty_journal) × (journal_of result ≡ []) }
+    {
+        let none = Entry {
+            cell: Cell(0),
+            value: 0,
+        };
+        Journal {
+            entries: [none; Job::FEW as usize],
+            size: 0,
         }
-        k = k - 1;
     }
-    Found::Nowhere
-}
 
-// One entry more.
-pub fn with_entry(j: Journal, e: Entry) -> Journal
-    requires { j.size < 8 }
-    ensures { journal_of result ≡ journal_of j ++ (entry_of e ∷ []) }
-{
-    let n = j.size;
-    let mut r = j;
-    r.entries[n as usize] = e;
-    r.size = n + 1;
-    r
+    pub fn entry_at(self, number: u8) -> Entry
+        requires { (self.size ≤ 8) × (number < self.size) }
+        ensures { entry_of result ≡ get_or (journal_of self) number no_entry }
+    {
+        self.entries[number as usize]
+    }
+
+    // The number of the last entry for a cell.
+    pub fn last_entry(self, c: Cell) -> Option<u8>
+        requires { self.size ≤ 8 }
+        ensures { result ≡ last_at (journal_of self) c.0 }
+    {
+        for k in (0..self.size).rev() {
+            if self.entries[k as usize].cell == c {
+                return Some(k);
+            }
+        }
+        None
+    }
+
+    // The entries that it holds.
+    pub(crate) fn held(&self) -> &[Entry]
+        requires { self.now.size ≤ 8 }
+        ensures { result.now ≡ take self.now.size self.now.entries }
+    {
+        &self.entries[..self.size as usize]
+    }
+
+    // One entry more.
+    pub fn with_entry(self, e: Entry) -> Journal
+        requires { self.size < 8 }
+        ensures { journal_of result ≡ journal_of self ++ (entry_of e ∷ []) }
+    {
+        Journal {
+            entries: pushed(self.entries, self.size, e),
+            size: self.size + 1,
+        }
+    }
 }

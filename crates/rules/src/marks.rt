@@ -1,13 +1,11 @@
-// Marking the higher jobs where a job's public versions changed.
-ghost use Rattle.std.specs.Prelude.{◌≡◌, ◌-◌, ◌≤◌, ◌<◌, Some};
-ghost use Rattle.theory.specs.Engine.{struck, earlier};
-ghost use Rattle.rules.specs.View.{found_of, mark_of, mark_byte};
-ghost use Rattle.rules.specs.Marks.{Shown, struck_by, mark_by, mark_reads, sweep, ListsFit};
+// From where a job shows each cell, and marking the higher jobs where that changed.
+ghost use Rattle.std.specs.Prelude.{◌≡◌, ◌-◌, ◌≤◌};
+ghost use Rattle.theory.specs.Engine.{value_at, struck};
+ghost use Rattle.rules.specs.View.{journal_of};
+ghost use Rattle.rules.specs.Marks.{Shown, shown_in, struck_by, mark_by, mark_reads, sweep, ListsFit};
 
 use crate::block::{Journal, Read, Reads, Versions};
-use crate::journal::Found;
-use crate::versions::shown_at;
-use machine::counts::Ticket;
+use machine::counts::{Cell, Ticket};
 use machine::job::Job;
 
 // A job's journal and public versions: from where it shows each cell.
@@ -17,94 +15,98 @@ pub struct Shows {
     pub versions: Versions,
 }
 
-// Whether a read with this source is to be marked, where ticket t showed its cell from one place and shows it from another.
-fn is_struck(before: Found, after: Found, t: Ticket, source: Ticket) -> bool
-    ensures { result ≡ struck (found_of before) (found_of after) t.0 source.0 }
-{
-    match before {
-        Found::Nowhere => match after {
-            Found::Nowhere => false,
-            Found::At(_) => source.0 <= t.0,
-        },
-        Found::At(a) => match after {
-            Found::Nowhere => source.0 == t.0,
-            Found::At(b) => {
-                if a == b {
-                    return false;
-                }
-                source.0 <= t.0
+impl Shows {
+    // The entry from which a cell is shown.
+    fn entry_for(self, c: Cell) -> Option<u8>
+        requires { Shown self }
+        ensures { result ≡ shown_in self c.0 }
+    {
+        for k in 0..self.versions.size {
+            let number = self.versions.numbers[k as usize];
+            if self.journal.entry_at(number).cell == c {
+                return Some(number);
             }
-        },
-    }
-}
-
-// Whether a listed read is to be marked, where ticket t's versions were `old` and are `new`.
-fn strikes(r: Read, old: Shows, new: Shows, t: Ticket) -> bool
-    requires { Shown old × Shown new }
-    ensures { result ≡ struck_by old new t.0 r }
-{
-    let c = r.cell;
-    let source = r.source;
-    let before = shown_at(old.journal, old.versions, c);
-    let after = shown_at(new.journal, new.versions, c);
-    is_struck(before, after, t, source)
-}
-
-// Of two marks the earlier.
-fn earlier_of(k: u8, mark: u8) -> u8
-    requires { k < 8 }
-    ensures { result ≡ mark_byte (earlier (Some k) (mark_of mark)) }
-{
-    if k < mark {
-        return k;
-    }
-    mark
-}
-
-// The mark of a higher job after that.
-fn mark_after(reads: Reads, old: Shows, new: Shows, t: Ticket) -> u8
-    requires { (reads.size ≤ 8) × Shown old × Shown new }
-    ensures { result ≡ mark_by old new t.0 reads }
-{
-    let n = reads.size;
-    let mut k: u8 = 0;
-    while k < n {
-        let r = reads.reads[k as usize];
-        if strikes(r, old, new, t) {
-            return earlier_of(k, reads.mark);
         }
-        k = k + 1;
+        None
     }
-    reads.mark
+
+    // The value of a cell's public version, where there is one.
+    pub(crate) fn value_for(self, c: Cell) -> Option<u64>
+        requires { Shown self }
+        ensures { result ≡ value_at (journal_of self.journal) (shown_in self c.0) }
+    {
+        let number = self.entry_for(c)?;
+        Some(self.journal.entry_at(number).value)
+    }
 }
 
-fn marked(reads: Reads, old: Shows, new: Shows, t: Ticket) -> Reads
-    requires { (reads.size ≤ 8) × Shown old × Shown new }
-    ensures { result ≡ mark_reads old new t.0 reads }
+// Whether a read with this source is to be marked, where ticket t showed its cell from one place and shows it from another.
+fn is_struck(before: Option<u8>, after: Option<u8>, t: Ticket, source: Ticket) -> bool
+    ensures { result ≡ struck before after t.0 source.0 }
 {
-    let m = mark_after(reads, old, new, t);
-    let mut r = reads;
-    r.mark = m;
-    r
+    match (before, after) {
+        (None, None) => false,
+        (None, Some(_)) => source <= t,
+        (Some(_), None) => source == t,
+        (Some(a), Some(b)) => a != b && source <= t,
+    }
 }
 
-// Marks each job above ticket t.
-pub fn mark_above(
-    lists: [Reads; Job::MOST as usize],
-    count: u8,
-    old: Shows,
-    new: Shows,
-    t: Ticket,
-) -> [Reads; Job::MOST as usize]
-    requires { (count ≤ 16) × ListsFit lists count × Shown old × Shown new }
-    ensures { result ≡ sweep (mark_reads old new t.0) t.0 (count - t.0) lists }
-{
-    let mut out = lists;
-    let mut k = t.0;
-    while k < count {
-        let r = out[k as usize];
-        out[k as usize] = marked(r, old, new, t);
-        k = k + 1;
+// What the job with a ticket showed before its move, and what it shows after it.
+#[derive(Clone, Copy)]
+pub struct Changed {
+    pub old: Shows,
+    pub new: Shows,
+    pub ticket: Ticket,
+    ghost shown_before: { Shown old },
+    ghost shown_after: { Shown new },
+}
+
+impl Changed {
+    // Whether a higher job's listed read is to be marked.
+    fn strikes(self, r: Read) -> bool
+        ensures { result ≡ struck_by self.old self.new self.ticket.0 r }
+    {
+        let before = self.old.entry_for(r.cell);
+        let after = self.new.entry_for(r.cell);
+        is_struck(before, after, self.ticket, r.source)
     }
-    out
+
+    // The mark of a higher job after that: of two marks the earlier.
+    fn mark_after(self, reads: Reads) -> u8
+        requires { reads.size ≤ 8 }
+        ensures { result ≡ mark_by self.old self.new self.ticket.0 reads }
+    {
+        for k in 0..reads.size {
+            if self.strikes(reads.reads[k as usize]) {
+                return k.min(reads.mark);
+            }
+        }
+        reads.mark
+    }
+
+    fn marked(self, reads: Reads) -> Reads
+        requires { reads.size ≤ 8 }
+        ensures { result ≡ mark_reads self.old self.new self.ticket.0 reads }
+    {
+        Reads {
+            mark: self.mark_after(reads),
+            ..reads
+        }
+    }
+
+    // Marks each job above the ticket.
+    pub fn mark_above(
+        self,
+        mut lists: [Reads; Job::MOST as usize],
+        count: u8,
+    ) -> [Reads; Job::MOST as usize]
+        requires { (count ≤ 16) × ListsFit lists count }
+        ensures { result ≡ sweep (mark_reads self.old self.new self.ticket.0) self.ticket.0 (count - self.ticket.0) lists }
+    {
+        for k in self.ticket.0..count {
+            lists[k as usize] = self.marked(lists[k as usize]);
+        }
+        lists
+    }
 }

@@ -1,15 +1,14 @@
 // One turn on the parts of its own job, so that the block stays where it is.
-ghost use Rattle.std.specs.Prelude.{◌≡◌, ◌-◌, ◌≤◌, ◌<◌};
+ghost use Rattle.std.specs.Prelude.{◌≡◌, ◌-◌, ◌≤◌, ◌<◌, nat_eq, nat_le, find, option_map};
+ghost use Rattle.std.specs.List.{list_all};
 ghost use Rattle.theory.specs.Engine.{last_value, or_else};
-ghost use Rattle.rules.specs.View.{journal_of, value_of, ShowingBelow};
+ghost use Rattle.rules.specs.View.{journal_of};
 ghost use Rattle.rules.specs.Moves.{Adds};
 ghost use Rattle.rules.specs.Turn.{listed_in, final_below, outside, reading, writing, stepping, moving};
-ghost use Rattle.rules.specs.Own.{still, publishing, stepped, ended, settled_own, Wrote, Lists, Goes, InCells, Asks, Moves, AtWrite, AtRead, AtStep, AtTurn, Ready, slot_at, shows_of};
+ghost use Rattle.rules.specs.Own.{still, publishing, stepped, ended, settled_own, Wrote, Lists, Goes, InCells, Asks, Moves, AtWrite, AtRead, AtStep, AtTurn, Ready, slot_at, parts_at, shows_of, around_of};
 
-use crate::block::{Block, Checkpoint, Entry, Journal, Read, Reads, Versions};
-use crate::journal::{Found, entry_at, last_entry, with_entry};
+use crate::block::{Block, Checkpoint, Entry, Journal, Read, Reads, Versions, pushed};
 use crate::marks::Shows;
-use crate::versions::{Shown, find_version, no_versions, publish, withdraw};
 use machine::counts::{Cell, Ticket};
 use machine::job::{Job, State};
 use machine::step::{Act, Stepped};
@@ -34,6 +33,18 @@ pub struct Around {
     pub versions: [Versions; Job::MOST as usize],
 }
 
+impl Around {
+    pub fn of(b: &Block) -> Around
+        ensures { result ≡ around_of b.now }
+    {
+        Around {
+            status: b.status,
+            journals: b.journals,
+            versions: b.versions,
+        }
+    }
+}
+
 // What a turn makes of a job's parts, and whether it may change what is public, so that the higher jobs are to be marked.
 #[derive(Clone, Copy)]
 pub struct Move {
@@ -42,37 +53,180 @@ pub struct Move {
     pub marks: bool,
 }
 
-pub fn own_of(
-    state: State,
-    status: u8,
-    journal: Journal,
-    versions: Versions,
-    list: Reads,
-    slot: Checkpoint,
-) -> Own
-    ensures { result ≡ record { state = state; status = status; journal = journal; versions = versions; list = list; slot = slot } }
-{
-    Own {
-        state: state,
-        status: status,
-        journal: journal,
-        versions: versions,
-        list: list,
-        slot: slot,
+impl Own {
+    // The parts of the job at index i, read where the block stands, with the checkpoint in a slot.
+    pub fn of(b: &Block, i: usize, slot: usize) -> Own
+        requires { (i < 16) × (slot < 128) }
+        ensures { result ≡ parts_at b.now i slot }
+    {
+        Own {
+            state: b.states[i],
+            status: b.status[i],
+            journal: b.journals[i],
+            versions: b.versions[i],
+            list: b.reads[i],
+            slot: b.checkpoints[slot],
+        }
+    }
+
+    // From where the job shows each cell.
+    pub fn shows(self) -> Shows
+        ensures { result ≡ shows_of self }
+    {
+        Shows {
+            journal: self.journal,
+            versions: self.versions,
+        }
+    }
+
+    // What the job holds of a cell itself: its own last entry, failing that its own listed read.
+    fn value_for(self, c: Cell) -> Option<u64>
+        requires { (self.journal.size ≤ 8) × (self.list.size ≤ 8) }
+        ensures { result ≡ or_else (last_value (journal_of self.journal) c.0) (listed_in self.list c.0) }
+    {
+        let Some(number) = self.journal.last_entry(c) else {
+            return self.list.value_for(c);
+        };
+        Some(self.journal.entry_at(number).value)
+    }
+
+    // A turn after which nobody is marked.
+    pub fn stay(self, word: Word) -> Move
+        ensures { result ≡ still word self }
+    {
+        Move {
+            own: self,
+            word,
+            marks: false,
+        }
+    }
+
+    // A turn that may change what is public.
+    fn then_mark(self, word: Word) -> Move
+        ensures { result ≡ publishing word self }
+    {
+        Move {
+            own: self,
+            word,
+            marks: true,
+        }
+    }
+
+    fn step_to(self, state: State) -> Move
+        ensures { result ≡ stepped self state }
+    {
+        Own { state, ..self }.stay(Word::Step)
+    }
+
+    fn write_to(self, state: State, e: Entry) -> Move
+        requires { self.journal.size < 8 }
+        ensures { Wrote self state e result }
+    {
+        let journal = self.journal.with_entry(e);
+        Own {
+            state,
+            journal,
+            ..self
+        }
+        .stay(Word::Step)
+    }
+
+    // The read is listed, with its checkpoint: the state before it, the journal's length and the number of listed reads.
+    fn list_to(self, state: State, x: Read) -> Move
+        requires { self.list.size < 8 }
+        ensures { Lists self state x result }
+    {
+        let slot = Checkpoint {
+            state: self.state,
+            writes: self.journal.size,
+            listed: self.list.size,
+        };
+        let list = self.list.with_read(x);
+        Own {
+            state,
+            list,
+            slot,
+            ..self
+        }
+        .stay(Word::Step)
+    }
+
+    fn end_with(self, versions: Versions) -> Move
+        ensures { result ≡ ended self versions }
+    {
+        Own {
+            status: Block::ENDED,
+            versions,
+            ..self
+        }
+        .then_mark(Word::End)
+    }
+
+    fn settle(self) -> Move
+        ensures { result ≡ settled_own self }
+    {
+        Own {
+            status: Block::FINAL,
+            ..self
+        }
+        .stay(Word::Final)
+    }
+
+    // A marked job goes back to the checkpoint of its earliest marked read.
+    fn back_to(self, c: Checkpoint) -> Move
+        requires { self.versions.size ≤ 8 }
+        ensures { Goes self c result }
+    {
+        let journal = Journal {
+            size: c.writes,
+            ..self.journal
+        };
+        let list = Reads {
+            size: c.listed,
+            mark: Reads::UNMARKED,
+            ..self.list
+        };
+        Own {
+            state: c.state,
+            status: Block::RUNNING,
+            journal,
+            versions: self.versions.withdraw(c.writes),
+            list,
+            ..self
+        }
+        .then_mark(Word::Back)
+    }
+
+    fn write_cell(self, next: State, e: Entry) -> Move
+        ensures { Moves self AtWrite (λ b i. writing b i next e) result }
+    {
+        if Job::FEW <= self.journal.size {
+            self.stay(Word::Stuck)
+        } else {
+            self.write_to(next, e)
+        }
     }
 }
 
-pub fn around_of(
-    status: [u8; Job::MOST as usize],
-    journals: [Journal; Job::MOST as usize],
-    versions: [Versions; Job::MOST as usize],
-) -> Around
-    ensures { result ≡ record { status = status; journals = journals; versions = versions } }
-{
-    Around {
-        status: status,
-        journals: journals,
-        versions: versions,
+impl Reads {
+    // The value of the listed read of a cell.
+    fn value_for(self, c: Cell) -> Option<u64>
+        requires { self.size ≤ 8 }
+        ensures { result ≡ listed_in self c.0 }
+    {
+        value_in(&self.reads[..self.size as usize], c)
+    }
+
+    // One read more.
+    fn with_read(self, x: Read) -> Reads
+        requires { self.size < 8 }
+        ensures { Adds self x result }
+    {
+        Reads {
+            reads: pushed(self.reads, self.size, x),
+            size: self.size + 1,
+            ..self
+        }
     }
 }
 
@@ -84,269 +238,21 @@ pub fn slot_of(i: usize, n: u8) -> usize
     requires { i < 16 }
     ensures { (result ≡ slot_at i n) × (result < 128) }
 {
-    if Job::FEW <= n {
-        return Block::SLOTS * i + LAST;
-    }
-    Block::SLOTS * i + n as usize
+    Block::SLOTS * i + usize::from(n).min(LAST)
 }
 
-// The value of the job's own listed read of a cell.
-fn listed_value(r: Reads, c: Cell) -> Shown
-    requires { r.size ≤ 8 }
-    ensures { value_of result ≡ listed_in r c.0 }
+// The value of the first of these reads that is of the cell.
+fn value_in(reads: &[Read], c: Cell) -> Option<u64>
+    ensures { result ≡ option_map (λ x. x.value) (find (λ x. nat_eq x.cell.0 c.0) reads.now) }
 {
-    let n = r.size;
-    let mut k: u8 = 0;
-    while k < n {
-        let x = r.reads[k as usize];
-        if x.cell.0 == c.0 {
-            return Shown::Value(x.value);
-        }
-        k = k + 1;
-    }
-    Shown::Nothing
+    reads.iter().find(|x| x.cell == c).map(|x| x.value)
 }
 
-// What the job holds of a cell itself: its own last entry, failing that its own listed read.
-fn own_value(j: Journal, r: Reads, c: Cell) -> Shown
-    requires { (j.size ≤ 8) × (r.size ≤ 8) }
-    ensures { value_of result ≡ or_else (last_value (journal_of j) c.0) (listed_in r c.0) }
+// Whether the jobs of these statuses are all final.
+fn all_final(status: &[u8]) -> bool
+    ensures { result ≡ list_all (λ s. nat_le 2 s) status.now }
 {
-    let found = last_entry(j, c);
-    let Found::At(number) = found else {
-        return listed_value(r, c);
-    };
-    let e = entry_at(j, number);
-    Shown::Value(e.value)
-}
-
-// Whether the jobs at the indices below i are all final.
-fn all_final(status: [u8; Job::MOST as usize], i: u8) -> bool
-    requires { i ≤ 16 }
-    ensures { result ≡ final_below status i }
-{
-    let mut k = i;
-    while 0 < k {
-        if status[(k - 1) as usize] < Block::FINAL {
-            return false;
-        }
-        k = k - 1;
-    }
-    true
-}
-
-// A turn that leaves the parts as they were.
-pub fn stay(own: Own, word: Word) -> Move
-    ensures { result ≡ still word own }
-{
-    Move {
-        own: own,
-        word: word,
-        marks: false,
-    }
-}
-
-// A turn that may change what is public.
-fn then_mark(own: Own, word: Word) -> Move
-    ensures { result ≡ publishing word own }
-{
-    Move {
-        own: own,
-        word: word,
-        marks: true,
-    }
-}
-
-fn step_to(own: Own, s: State) -> Move
-    ensures { result ≡ stepped own s }
-{
-    let mut r = own;
-    r.state = s;
-    Move {
-        own: r,
-        word: Word::Step,
-        marks: false,
-    }
-}
-
-fn write_to(own: Own, s: State, e: Entry) -> Move
-    requires { own.journal.size < 8 }
-    ensures { Wrote own s e result }
-{
-    let j = own.journal;
-    let mut r = own;
-    r.state = s;
-    r.journal = with_entry(j, e);
-    Move {
-        own: r,
-        word: Word::Step,
-        marks: false,
-    }
-}
-
-// One read more.
-fn with_read(r: Reads, x: Read) -> Reads
-    requires { r.size < 8 }
-    ensures { Adds r x result }
-{
-    let n = r.size;
-    let mut l = r;
-    l.reads[n as usize] = x;
-    l.size = n + 1;
-    l
-}
-
-// The read is listed, with its checkpoint: the state before it, the journal's length and the number of listed reads.
-fn list_to(own: Own, s: State, x: Read) -> Move
-    requires { own.list.size < 8 }
-    ensures { Lists own s x result }
-{
-    let list = own.list;
-    let j = own.journal;
-    let before = own.state;
-    let here = Checkpoint {
-        state: before,
-        writes: j.size,
-        listed: list.size,
-    };
-    let mut r = own;
-    r.state = s;
-    r.slot = here;
-    r.list = with_read(list, x);
-    Move {
-        own: r,
-        word: Word::Step,
-        marks: false,
-    }
-}
-
-fn end_with(own: Own, public: Versions) -> Move
-    ensures { result ≡ ended own public }
-{
-    let mut r = own;
-    r.status = Block::ENDED;
-    r.versions = public;
-    then_mark(r, Word::End)
-}
-
-fn settle(own: Own) -> Move
-    ensures { result ≡ settled_own own }
-{
-    let mut r = own;
-    r.status = Block::FINAL;
-    Move {
-        own: r,
-        word: Word::Final,
-        marks: false,
-    }
-}
-
-// The journal up to its n-th entry.
-fn cut_journal(j: Journal, n: u8) -> Journal
-    ensures { result ≡ record { entries = j.entries; size = n } }
-{
-    let mut r = j;
-    r.size = n;
-    r
-}
-
-// The reads up to the n-th, with no mark.
-fn cut_reads(l: Reads, n: u8) -> Reads
-    ensures { result ≡ record { reads = l.reads; size = n; mark = 255 } }
-{
-    let mut r = l;
-    r.size = n;
-    r.mark = Reads::UNMARKED;
-    r
-}
-
-// A marked job goes back to the checkpoint of its earliest marked read.
-fn back_to(own: Own, c: Checkpoint) -> Move
-    requires { own.versions.size ≤ 8 }
-    ensures { Goes own c result }
-{
-    let j = own.journal;
-    let v = own.versions;
-    let list = own.list;
-    let state = c.state;
-    let mut r = own;
-    r.state = state;
-    r.status = Block::RUNNING;
-    r.journal = cut_journal(j, c.writes);
-    r.versions = withdraw(v, c.writes);
-    r.list = cut_reads(list, c.listed);
-    then_mark(r, Word::Back)
-}
-
-fn write_cell(own: Own, next: State, e: Entry) -> Move
-    ensures { Moves own AtWrite (λ b i. writing b i next e) result }
-{
-    let j = own.journal;
-    if Job::FEW <= j.size {
-        return stay(own, Word::Stuck);
-    }
-    write_to(own, next, e)
-}
-
-// READ from outside: the version found is listed, if there is room.
-fn read_outside(own: Own, around: Around, first: u64, t: Ticket, next: State, c: Cell) -> Move
-    requires { (0 < t.0) × (t.0 ≤ 16) × ShowingBelow around.journals around.versions (t.0 - 1) }
-    ensures { Moves own (AtRead around first t.0 next c.0) (λ b i. outside b i c.0) result }
-{
-    let list = own.list;
-    if Job::FEW <= list.size {
-        return stay(own, Word::Stuck);
-    }
-    let journals = around.journals;
-    let versions = around.versions;
-    let found = find_version(journals, versions, first, c, Ticket(t.0 - 1));
-    let source = found.source;
-    let x = Read {
-        cell: c,
-        source: source,
-        value: found.value,
-    };
-    let s = next.given(found.value);
-    list_to(own, s, x)
-}
-
-// READ of a cell: the job's own value, or one from outside.
-fn read_cell(own: Own, around: Around, first: u64, t: Ticket, next: State, c: Cell) -> Move
-    requires { (0 < t.0) × (t.0 ≤ 16) × (own.journal.size ≤ 8) × (own.list.size ≤ 8) × ShowingBelow around.journals around.versions (t.0 - 1) }
-    ensures { Moves own (AtRead around first t.0 next c.0) (λ b i. reading b i c.0) result }
-{
-    let j = own.journal;
-    let list = own.list;
-    let held = own_value(j, list, c);
-    let Shown::Value(v) = held else {
-        return read_outside(own, around, first, t, next, c);
-    };
-    let s = next.given(v);
-    step_to(own, s)
-}
-
-// One instruction of a running job that is not marked, or its end.
-fn step_or_end(step: Stepped, own: Own, around: Around, first: u64, t: Ticket) -> Move
-    requires { Ready own around t.0 }
-    ensures { Moves own (AtStep step around first t.0) stepping result }
-{
-    let act = step.act;
-    let next = step.state;
-    match act {
-        Act::Nothing => step_to(own, next),
-        Act::Read(c) => read_cell(own, around, first, t, next, c),
-        Act::Write(c, v) => write_cell(own, next, Entry { cell: c, value: v }),
-        Act::Stop => {
-            let j = own.journal;
-            let public = publish(j);
-            end_with(own, public)
-        }
-        Act::Abandon => {
-            let public = no_versions();
-            end_with(own, public)
-        }
-        Act::Stuck => stay(own, Word::Stuck),
-    }
+    status.iter().all(|s| Block::FINAL <= *s)
 }
 
 // The cell that an instruction reads; 0 if it reads none.
@@ -354,56 +260,84 @@ pub fn cell_read(step: Stepped) -> usize
     requires { InCells step }
     ensures { Asks step result }
 {
-    let act = step.act;
-    match act {
-        Act::Nothing => 0,
+    match step.act {
         Act::Read(c) => c.0 as usize,
-        Act::Write(_, _) => 0,
-        Act::Stop => 0,
-        Act::Abandon => 0,
-        Act::Stuck => 0,
+        _ => 0,
     }
 }
 
-// Document 01's rules, tried in order, for a job of a block that fits: with the step that it would take, the checkpoint of
-// its mark, and the start value of the cell that it would read.
-pub fn take_own(
-    step: Stepped,
-    own: Own,
-    back: Checkpoint,
-    around: Around,
-    first: u64,
-    t: Ticket,
-) -> Move
-    requires { Ready own around t.0 }
-    ensures { Moves own (AtTurn step around first back t.0) moving result }
-{
-    let status = own.status;
-    if Block::FINAL <= status {
-        return stay(own, Word::Idle);
-    }
-    let list = own.list;
-    let mark = list.mark;
-    if mark != Reads::UNMARKED {
-        return back_to(own, back);
-    }
-    if status == Block::RUNNING {
-        return step_or_end(step, own, around, first, t);
-    }
-    let all = around.status;
-    if all_final(all, t.0 - 1) {
-        return settle(own);
-    }
-    stay(own, Word::Wait)
+// A job whose turn it is: its parts, what it sees of all, the start value of the cell that it would read, and its ticket.
+// The parts are read where they stand: a turn that held them would copy them.
+#[derive(Clone, Copy)]
+pub struct Turning<'a> {
+    pub own: &'a Own,
+    pub around: &'a Around,
+    pub first: u64,
+    pub ticket: Ticket,
+    ghost ready: { Ready own.now around.now ticket.0 },
 }
 
-pub fn shows_of(own: Own) -> Shows
-    ensures { result ≡ shows_of own }
-{
-    let journal = own.journal;
-    let versions = own.versions;
-    Shows {
-        journal: journal,
-        versions: versions,
+impl Turning<'_> {
+    // READ from outside: the version found is listed, if there is room.
+    fn read_outside(self, next: State, c: Cell) -> Move
+        ensures { Moves self.entry.own.now (AtRead self.entry.around.now self.entry.first self.entry.ticket.0 next c.0) (λ b i. outside b i c.0) result }
+    {
+        let own = self.own;
+        if Job::FEW <= own.list.size {
+            return own.stay(Word::Stuck);
+        }
+        let lower = Ticket(self.ticket.0 - 1);
+        let found = self.around.find_version(self.first, c, lower);
+        let x = Read {
+            cell: c,
+            source: found.source,
+            value: found.value,
+        };
+        own.list_to(next.given(found.value), x)
+    }
+
+    // READ of a cell: the job's own value, or one from outside.
+    fn read_cell(self, next: State, c: Cell) -> Move
+        ensures { Moves self.entry.own.now (AtRead self.entry.around.now self.entry.first self.entry.ticket.0 next c.0) (λ b i. reading b i c.0) result }
+    {
+        let Some(v) = self.own.value_for(c) else {
+            return self.read_outside(next, c);
+        };
+        self.own.step_to(next.given(v))
+    }
+
+    // One instruction of a running job that is not marked, or its end.
+    fn step_or_end(self, step: Stepped) -> Move
+        ensures { Moves self.entry.own.now (AtStep step self.entry.around.now self.entry.first self.entry.ticket.0) stepping result }
+    {
+        let own = self.own;
+        let next = step.state;
+        match step.act {
+            Act::Nothing => own.step_to(next),
+            Act::Read(c) => self.read_cell(next, c),
+            Act::Write(cell, value) => own.write_cell(next, Entry { cell, value }),
+            Act::Stop => own.end_with(own.journal.publish()),
+            Act::Abandon => own.end_with(Versions::empty()),
+            Act::Stuck => own.stay(Word::Stuck),
+        }
+    }
+
+    // Document 01's rules, tried in order, for a job of a block that fits: with the step that it would take, and the checkpoint
+    // of its mark.
+    pub fn take(self, step: Stepped, back: Checkpoint) -> Move
+        ensures { Moves self.entry.own.now (AtTurn step self.entry.around.now self.entry.first back self.entry.ticket.0) moving result }
+    {
+        let own = self.own;
+        if Block::FINAL <= own.status {
+            own.stay(Word::Idle)
+        } else if own.list.mark != Reads::UNMARKED {
+            own.back_to(back)
+        } else if own.status == Block::RUNNING {
+            self.step_or_end(step)
+        } else if all_final(&self.around.status[..(self.ticket.0 - 1) as usize]) {
+            own.settle()
+        } else {
+            own.stay(Word::Wait)
+        }
     }
 }

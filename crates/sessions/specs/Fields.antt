@@ -1,9 +1,8 @@
 -- Document 01, "Playing a session": the parts of a session, or 13.
-use Rattle.std.specs.Prelude.{◌≡◌, Bool, true, false, cond, ◌&&◌, List, ℕ, zero, suc, ◌+◌, ◌-◌, ◌≤◌, eqb, leb, ltb, length, get_or, take, drop, set, replicate}
+use Rattle.std.specs.Prelude.{◌≡◌, Bool, cond, ◌&&◌, List, ℕ, zero, suc, ◌+◌, ◌≤◌, Option, None, Some, eqb, leb, ltb, length, get_or, take, drop, set, replicate}
 use Rattle.machine.specs.Limits.{CELLS}
 use Rattle.machine.specs.Paper.{little, tag, size, later}
 use Rattle.sessions.specs.Limits.{BYTES, TURNS}
-use Rattle.sessions.specs.declared.fields.Start.{Start}
 use Rattle.sessions.specs.declared.fields.Parts.{Parts}
 
 -- the start table, a block paper and the tickets of the turns; or a breach
@@ -61,16 +60,7 @@ zeros = replicate CELLS 0
 unfoldable pub session_of : List ℕ → Session
 session_of bs = cond (ltb BYTES (length bs)) malformed (from_cell 0 zeros bs)
 
--- the table of the code's answer, from one of unnamed cells, and where the paper begins; or the session is malformed
-pub record Starts (unnamed bs : List ℕ) (r : Start) : Type 0 where
-  pub sound : r.sound ≡ true → from_cell 0 unnamed bs ≡ after_cells r.table (drop r.next bs)
-  pub breach : r.sound ≡ false → from_cell 0 unnamed bs ≡ malformed
-  pub inside : r.next ≤ length bs
-
--- where the parts of a session stand in its bytes; or it is malformed
-pub record Divides (bs : List ℕ) (s : Session) (r : Parts) : Type 0 where
-  pub sound : r.sound ≡ true → s ≡ session r.table (take (r.turns - r.paper) (drop r.paper bs)) (drop (r.turns + 3) bs)
-  pub breach : r.sound ≡ false → s ≡ malformed
-  pub paper : r.sound ≡ true → r.paper ≤ r.turns
-  pub room : r.sound ≡ true → r.turns + 3 ≤ length bs
-  pub few : r.sound ≡ true → length bs ≤ r.turns + 3 + TURNS
+-- the parts of a session as the code finds them; or it is malformed
+abbrev pub Divides : Session → Option Parts → Type 0
+Divides s None = s ≡ malformed
+Divides s (Some r) = (s ≡ session r.table r.paper.now r.tickets.now) × (length r.tickets.now ≤ TURNS)

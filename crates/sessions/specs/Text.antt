@@ -1,6 +1,7 @@
 -- Document 01's output: decimal, one space, newline, as bytes; and text that is put into a lent buffer, cut where the buffer ends.
 use Rattle.std.specs.Prelude.{◌≡◌, cond, List, [], ◌∷◌, ◌++◌, ℕ, zero, suc, ◌+◌, ◌/◌, ◌%◌, min, eqb, ltb, length, get_or, set}
 use Rattle.theory.specs.Word as W
+use Rattle.sessions.specs.declared.text.Text.{Text}
 unfoldable pub use Rattle.theory.specs.Word.{word_text}
 
 abbrev pub space : ℕ
@@ -72,3 +73,8 @@ put out at (x ∷ text) = put (set out at x) (suc at) text
 pub record Puts (before : List ℕ) (at : ℕ) (text after : List ℕ) (end : ℕ) : Type 0 where
   pub written : after ≡ put before at text
   pub ended : end ≡ min (at + length text) (length before)
+
+-- a text after more was put at its end, in the same buffer
+pub record Written (before : Text) (text : List ℕ) (after : Text) : Type 0 where
+  pub same_reference : after.out.ghost_name ≡ before.out.ghost_name
+  pub puts : Puts before.out.now before.at text after.out.now after.at

@@ -1,30 +1,20 @@
 // The fields of a session: cells of the start table, a block paper, and the tickets.
-ghost use Rattle.std.specs.Prelude.{◌≡◌, true, false, ◌+◌, ◌≤◌, ◌<◌, length, drop};
-ghost use Rattle.machine.specs.Paper.{size};
-ghost use Rattle.sessions.specs.Fields.{is_field, is_turns, paper_length, cell_in, value_in, is_next_cell, after_cells, zeros, session_of, Starts, Divides};
+ghost use Rattle.std.specs.Prelude.{◌≡◌, true, ◌≤◌, ◌<◌, length};
+ghost use Rattle.sessions.specs.Fields.{is_field, is_turns, paper_length, cell_in, value_in, is_next_cell, after_cells, session_of, Divides};
 
 use machine::bytes;
 use machine::counts::Cell;
-use machine::paper::Field;
+use machine::paper::{Field, size_of_field};
 
-// The start table, and where the cells end; or a cell is in breach.
+// The parts of a session: the start table, the block paper and the tickets.
 #[derive(Clone, Copy)]
-struct Start {
-    pub sound: bool,
+pub(crate) struct Parts<'a> {
     pub table: [u64; Cell::COUNT as usize],
-    pub next: usize,
+    pub paper: &'a [u8],
+    pub tickets: &'a [u8],
 }
 
-// The start table, and where the paper and the field of tickets begin; or the session is malformed.
-#[derive(Clone, Copy)]
-pub(crate) struct Parts {
-    pub sound: bool,
-    pub table: [u64; Cell::COUNT as usize],
-    pub paper: usize,
-    pub turns: usize,
-}
-
-impl Parts {
+impl Parts<'_> {
     // Bytes in a session.
     pub const BYTES: usize = 16384;
 
@@ -45,186 +35,89 @@ impl Parts {
     pub const VALUE: usize = Field::HEAD + 1;
 }
 
-// The length of the field that starts here, where its head stands.
-fn size_at(input: &[u8], at: usize) -> usize
-    requires { at + 3 ≤ length input.now }
-    ensures { result ≡ size (drop at input.now) }
+// Whether a whole field with this tag stands at the front.
+fn is_field(rest: &[u8], tag: u8) -> bool
+    ensures { result ≡ is_field tag rest.now }
 {
-    let from = at + 1;
-    let to = at + Field::HEAD;
-    bytes::little_of(&input[from..to]) as usize
-}
-
-// Whether a whole field with this tag starts here.
-fn is_field(input: &[u8], at: usize, tag: u8) -> bool
-    requires { at ≤ length input.now }
-    ensures { result ≡ is_field tag (drop at input.now) }
-{
-    let left = input.len() - at;
-    if left < Field::HEAD {
-        return false;
-    }
-    if left - Field::HEAD < size_at(input, at) {
-        return false;
-    }
-    if input[at] != tag {
-        return false;
-    }
-    true
-}
-
-fn wide(x: u8) -> u16
-    ensures { (result ≡ x) × (result < 256) }
-{
-    x as u16
+    Field::HEAD <= rest.len() && size_of_field(rest) <= rest.len() - Field::HEAD && rest[0] == tag
 }
 
 // The cell that a field names.
-fn cell_at(input: &[u8], at: usize) -> Cell
-    requires { at + 3 < length input.now }
-    ensures { (result.0 ≡ cell_in (drop at input.now)) × (result.0 < 256) }
+fn cell_at(rest: &[u8]) -> Cell
+    requires { 3 < length rest.now }
+    ensures { (result.0 ≡ cell_in rest.now) × (result.0 < 256) }
 {
-    let number = wide(input[at + Field::HEAD]);
-    Cell(number)
+    Cell(u16::from(rest[Field::HEAD]))
 }
 
 // Whether the field of a cell has its length, and a cell that has not been passed.
-fn is_next_cell(input: &[u8], at: usize, least: Cell) -> bool
-    requires { is_field 1 (drop at input.now) ≡ true }
-    ensures { result ≡ is_next_cell least.0 (drop at input.now) }
+fn is_next_cell(rest: &[u8], least: Cell) -> bool
+    requires { is_field 1 rest.now ≡ true }
+    ensures { result ≡ is_next_cell least.0 rest.now }
 {
-    if size_at(input, at) != Parts::CELL_BYTES {
-        return false;
-    }
-    let cell = cell_at(input, at);
-    least.0 <= cell.0
+    size_of_field(rest) == Parts::CELL_BYTES && least <= cell_at(rest)
 }
 
-fn value_at(input: &[u8], at: usize) -> u64
-    requires { at + 12 ≤ length input.now }
-    ensures { result ≡ value_in (drop at input.now) }
+fn value_at(rest: &[u8]) -> u64
+    requires { 12 ≤ length rest.now }
+    ensures { result ≡ value_in rest.now }
 {
-    let from = at + Parts::VALUE;
-    let to = at + Parts::CELL_FIELD;
-    bytes::little_of(&input[from..to])
+    bytes::little_of(&rest[Parts::VALUE..Parts::CELL_FIELD])
 }
 
-// The cells with which the session begins, strictly rising, put into a table.
-fn cells_into(unnamed: [u64; Cell::COUNT as usize], input: &[u8]) -> Start
-    ensures { Starts unnamed input.now result }
+// How long the block paper at the front is.
+fn paper_size(bytes: &[u8]) -> usize
+    ensures { result ≡ paper_length bytes.now }
 {
-    let mut table = unnamed;
-    let mut least = Cell(0);
-    let mut at: usize = 0;
-    while at < input.len() {
-        if !is_field(input, at, Parts::CELL) {
-            return Start {
-                sound: true,
-                table: table,
-                next: at,
-            };
-        }
-        if !is_next_cell(input, at, least) {
-            return Start {
-                sound: false,
-                table: table,
-                next: at,
-            };
-        }
-        let cell = cell_at(input, at);
-        let number = cell.0;
-        table[number as usize] = value_at(input, at);
-        let next = number + 1;
-        least = Cell(next);
-        at = at + Parts::CELL_FIELD;
+    let mut rest = bytes;
+    while is_field(rest, Field::TAG) {
+        rest = &rest[Field::HEAD + size_of_field(rest)..];
     }
-    Start {
-        sound: true,
-        table: table,
-        next: at,
-    }
-}
-
-// The start table; unnamed cells start at 0.
-fn start_cells(input: &[u8]) -> Start
-    ensures { Starts zeros input.now result }
-{
-    cells_into([0; Cell::COUNT as usize], input)
-}
-
-// Where the block paper ends that begins here.
-fn paper_end(input: &[u8], from: usize) -> usize
-    requires { from ≤ length input.now }
-    ensures { result ≡ from + paper_length (drop from input.now) }
-{
-    let mut at = from;
-    while at < input.len() {
-        if !is_field(input, at, Field::TAG) {
-            return at;
-        }
-        let n = size_at(input, at);
-        at = at + Field::HEAD + n;
-    }
-    at
+    bytes.len() - rest.len()
 }
 
 // Whether the rest is one field of tickets.
-fn ends_in_turns(input: &[u8], at: usize) -> bool
-    requires { at ≤ length input.now }
-    ensures { result ≡ is_turns (drop at input.now) }
+fn ends_in_turns(rest: &[u8]) -> bool
+    ensures { result ≡ is_turns rest.now }
 {
-    if !is_field(input, at, Parts::TICKETS) {
-        return false;
-    }
-    let n = size_at(input, at);
-    if Parts::TURNS < n {
-        return false;
-    }
-    if at + Field::HEAD + n != input.len() {
-        return false;
-    }
-    true
-}
-
-fn malformed() -> Parts
-    ensures { result.sound ≡ false }
-{
-    Parts {
-        sound: false,
-        table: [0; Cell::COUNT as usize],
-        paper: 0,
-        turns: 0,
-    }
+    is_field(rest, Parts::TICKETS)
+        && size_of_field(rest) <= Parts::TURNS
+        && rest.len() - Field::HEAD == size_of_field(rest)
 }
 
 // The parts after the cells: the paper, then the tickets.
-fn parts_from(input: &[u8], table: [u64; Cell::COUNT as usize], from: usize) -> Parts
-    requires { from ≤ length input.now }
-    ensures { Divides input.now (after_cells table (drop from input.now)) result }
+fn parts_from(table: [u64; Cell::COUNT as usize], rest: &[u8]) -> Option<Parts<'_>>
+    ensures { Divides (after_cells table rest.now) result }
 {
-    let to = paper_end(input, from);
-    if !ends_in_turns(input, to) {
-        return malformed();
+    let (paper, turns) = rest.split_at(paper_size(rest));
+    if !ends_in_turns(turns) {
+        return None;
     }
-    Parts {
-        sound: true,
-        table: table,
-        paper: from,
-        turns: to,
-    }
+    Some(Parts {
+        table,
+        paper,
+        tickets: &turns[Field::HEAD..],
+    })
 }
 
-// The parts of a session of any bytes.
-pub(crate) fn session_parts(input: &[u8]) -> Parts
-    ensures { Divides input.now (session_of input.now) result }
+// The parts of a session of any bytes, or none if it is malformed: the cells strictly rise, and unnamed cells start at 0.
+pub(crate) fn session_parts(input: &[u8]) -> Option<Parts<'_>>
+    ensures { Divides (session_of input.now) result }
 {
     if Parts::BYTES < input.len() {
-        return malformed();
+        return None;
     }
-    let start = start_cells(input);
-    if !start.sound {
-        return malformed();
+    let mut table = [0; Cell::COUNT as usize];
+    let mut least = Cell(0);
+    let mut rest = input;
+    while is_field(rest, Parts::CELL) {
+        if !is_next_cell(rest, least) {
+            return None;
+        }
+        let cell = cell_at(rest);
+        table[usize::from(cell.0)] = value_at(rest);
+        least = Cell(cell.0 + 1);
+        rest = &rest[Parts::CELL_FIELD..];
     }
-    let table = start.table;
-    parts_from(input, table, start.next)
+    parts_from(table, rest)
 }

@@ -1,173 +1,150 @@
 // Text in a lent buffer: each piece stands where the last one ended, and is cut where the buffer ends.
 ghost use Rattle.std.specs.Prelude.{◌≡◌, [], ◌∷◌, ◌≤◌, length};
-ghost use Rattle.machine.specs.Limits.{CELLS};
-ghost use Rattle.sessions.specs.Text.{decimal, byte_text, final_byte, spaced, last_of, named, turn_line, byte_lines, cell_line, cell_lines, where_of, refused_line, Puts};
 
 use machine::counts::{Cell, Place, Ticket};
 use machine::paper::Field;
 
-// One byte at a place.
-fn put(out: &mut [u8], at: usize, b: u8) -> usize
-    requires { at ≤ length out.old }
-    ensures { Puts out.old at (b ∷ []) out.new result }
-{
-    if at < out.len() {
-        out[at] = b;
-        return at + 1;
-    }
-    at
-}
-
-fn put_all(out: &mut [u8], at: usize, bytes: &[u8]) -> usize
-    requires { at ≤ length out.old }
-    ensures { Puts out.old at bytes.now out.new result }
-{
-    let mut to = at;
-    let mut k: usize = 0;
-    while k < bytes.len() {
-        to = put(out, to, bytes[k]);
-        k = k + 1;
-    }
-    to
-}
-
-// A number in decimal, by recursion on the number, which falls to its first digit.
-fn put_decimal(out: &mut [u8], at: usize, n: u64) -> usize
-    requires { at ≤ length out.old }
-    ensures { Puts out.old at (decimal n) out.new result }
-{
-    let last = b'0' + (n % 10) as u8;
-    if n < 10 {
-        return put(out, at, last);
-    }
-    let to = put_decimal(out, at, n / 10);
-    put(out, to, last)
-}
-
-// A turn's word, from the byte that stands for it.
-fn put_word(out: &mut [u8], at: usize, word: u8) -> usize
-    requires { at ≤ length out.old }
-    ensures { Puts out.old at (byte_text word) out.new result }
-{
-    match word {
-        0 => put_all(out, at, b"idle"),
-        1 => put_all(out, at, b"back"),
-        2 => put_all(out, at, b"step"),
-        3 => put_all(out, at, b"end"),
-        4 => put_all(out, at, b"final"),
-        5 => put_all(out, at, b"wait"),
-        _ => put_all(out, at, b"none"),
-    }
-}
-
-// A space, then a number.
-fn put_spaced(out: &mut [u8], at: usize, n: u64) -> usize
-    requires { at ≤ length out.old }
-    ensures { Puts out.old at (spaced n) out.new result }
-{
-    let a = put(out, at, b' ');
-    put_decimal(out, a, n)
-}
-
-// The last number of a line.
-fn put_last(out: &mut [u8], at: usize, n: u64) -> usize
-    requires { at ≤ length out.old }
-    ensures { Puts out.old at (last_of n) out.new result }
-{
-    let a = put_spaced(out, at, n);
-    put(out, a, b'\n')
-}
-
-// A number, and the word that a byte stands for.
-fn put_named(out: &mut [u8], at: usize, n: u64, word: u8) -> usize
-    requires { at ≤ length out.old }
-    ensures { Puts out.old at (named n (byte_text word)) out.new result }
-{
-    let a = put_decimal(out, at, n);
-    let b = put(out, a, b' ');
-    put_word(out, b, word)
-}
-
-// The ticket, the turn's word, and f after it.
-fn put_turn(out: &mut [u8], at: usize, ticket: Ticket, word: u8, f: u64) -> usize
-    requires { at ≤ length out.old }
-    ensures { Puts out.old at (turn_line ticket.0 (byte_text word) f) out.new result }
-{
-    let a = put_named(out, at, ticket.0 as u64, word);
-    put_last(out, a, f)
-}
-
 // The byte of a final turn.
 const FINAL: u8 = 4;
 
-// What a turn of this word adds to the number of final jobs.
-fn final_one(word: u8) -> u64
-    ensures { result ≡ final_byte word }
-{
-    if word == FINAL {
-        return 1;
+// A lent buffer, and where the text in it ends.
+#[derive(Drop)]
+pub(crate) struct Text<'a> {
+    out: &'a mut [u8],
+    at: usize,
+    ghost within: { at ≤ length out.now },
+}
+
+impl<'a> Text<'a> {
+    ghost use Rattle.sessions.specs.Text.{decimal, byte_text, spaced, last_of, named, turn_line, byte_lines, cell_line, cell_lines, where_of, refused_line, Written};
+
+    // No text yet.
+    pub(crate) fn new(out: &'a mut [u8]) -> Text<'a>
+        ensures same_reference { result.out.ghost_name ≡ out.entry.ghost_name }
+        ensures none { (result.out.now ≡ out.old) × (result.at ≡ 0) }
+    {
+        Text { out, at: 0 }
     }
-    0
-}
 
-// A line for each turn; f starts at 0.
-pub(crate) fn put_turns(out: &mut [u8], at: usize, tickets: &[u8], words: &[u8]) -> usize
-    requires { (at ≤ length out.old) × (length words.now ≡ length tickets.now) }
-    ensures { Puts out.old at (byte_lines 0 tickets.now words.now) out.new result }
-{
-    let mut to = at;
-    let mut f: u64 = 0;
-    let mut k: usize = 0;
-    while k < tickets.len() {
-        let w = words[k];
-        f = f + final_one(w);
-        let t = tickets[k];
-        to = put_turn(out, to, Ticket(t), w, f);
-        k = k + 1;
+    // How many bytes of text stand in the buffer.
+    pub(crate) fn size(&self) -> usize
+        ensures { result ≡ self.now.at }
+    {
+        self.at
     }
-    to
-}
 
-// A settled cell that is not 0.
-fn put_cell(out: &mut [u8], at: usize, cell: Cell, value: u64) -> usize
-    requires { at ≤ length out.old }
-    ensures { Puts out.old at (cell_line cell.0 value) out.new result }
-{
-    if value == 0 {
-        return at;
+    fn put(&mut self, b: u8)
+        ensures { Written self.old (b ∷ []) self.new }
+    {
+        if self.at < self.out.len() {
+            self.out[self.at] = b;
+            self.at += 1;
+        }
     }
-    let a = put_all(out, at, b"cell ");
-    let b = put_decimal(out, a, cell.0 as u64);
-    put_last(out, b, value)
-}
 
-pub(crate) fn put_cells(out: &mut [u8], at: usize, table: &[u64]) -> usize
-    requires { (at ≤ length out.old) × (length table.now ≡ CELLS) }
-    ensures { Puts out.old at (cell_lines 0 table.now) out.new result }
-{
-    let mut to = at;
-    let mut k: usize = 0;
-    while k < table.len() {
-        let number = k as u16;
-        to = put_cell(out, to, Cell(number), table[k]);
-        k = k + 1;
+    fn put_all(&mut self, bytes: &[u8])
+        ensures { Written self.old bytes.now self.new }
+    {
+        for &b in bytes {
+            self.put(b);
+        }
     }
-    to
-}
 
-// A field and a place, at a line's end.
-fn put_where(out: &mut [u8], at: usize, field: Field, place: Place) -> usize
-    requires { at ≤ length out.old }
-    ensures { Puts out.old at (where_of field.0 place.0) out.new result }
-{
-    let a = put_spaced(out, at, field.0 as u64);
-    put_last(out, a, place.0 as u64)
-}
+    // A number in decimal, by recursion on the number, which falls to its first digit.
+    fn put_decimal(&mut self, n: u64)
+        ensures { Written self.old (decimal n) self.new }
+    {
+        if 10 <= n {
+            self.put_decimal(n / 10);
+        }
+        self.put(b'0' + (n % 10) as u8);
+    }
 
-pub(crate) fn put_refusal(out: &mut [u8], number: u8, field: Field, place: Place) -> usize
-    ensures { Puts out.old 0 (refused_line (number, field.0, place.0)) out.new result }
-{
-    let a = put_all(out, 0, b"refused ");
-    let b = put_decimal(out, a, number as u64);
-    put_where(out, b, field, place)
+    // A turn's word, from the byte that stands for it.
+    fn put_word(&mut self, word: u8)
+        ensures { Written self.old (byte_text word) self.new }
+    {
+        let text: &[u8] = match word {
+            0 => b"idle",
+            1 => b"back",
+            2 => b"step",
+            3 => b"end",
+            4 => b"final",
+            5 => b"wait",
+            _ => b"none",
+        };
+        self.put_all(text);
+    }
+
+    // A space, then a number.
+    fn put_spaced(&mut self, n: u64)
+        ensures { Written self.old (spaced n) self.new }
+    {
+        self.put(b' ');
+        self.put_decimal(n);
+    }
+
+    // The last number of a line.
+    fn put_last(&mut self, n: u64)
+        ensures { Written self.old (last_of n) self.new }
+    {
+        self.put_spaced(n);
+        self.put(b'\n');
+    }
+
+    // The ticket, the turn's word, and f after it.
+    fn put_turn(&mut self, ticket: Ticket, word: u8, f: u64)
+        ensures { Written self.old (turn_line ticket.0 (byte_text word) f) self.new }
+    {
+        self.put_decimal(u64::from(ticket.0));
+        self.put(b' ');
+        self.put_word(word);
+        self.put_last(f);
+    }
+
+    // A line for each turn; f starts at 0.
+    pub(crate) fn put_turns(&mut self, tickets: &[u8], words: &[u8])
+        ensures { Written self.old (byte_lines 0 tickets.now words.now) self.new }
+    {
+        let mut f = 0;
+        for (&t, &w) in tickets.iter().zip(words) {
+            f += u64::from(w == FINAL);
+            self.put_turn(Ticket(t), w, f);
+        }
+    }
+
+    // A settled cell that is not 0.
+    fn put_cell(&mut self, cell: Cell, value: u64)
+        ensures { Written self.old (cell_line cell.0 value) self.new }
+    {
+        if value != 0 {
+            self.put_all(b"cell ");
+            self.put_decimal(u64::from(cell.0));
+            self.put_last(value);
+        }
+    }
+
+    pub(crate) fn put_cells(&mut self, table: &[u64; Cell::COUNT as usize])
+        ensures { Written self.old (cell_lines 0 table.now) self.new }
+    {
+        for (k, &value) in table.iter().enumerate() {
+            self.put_cell(Cell(k as u16), value);
+        }
+    }
+
+    // A field and a place, at a line's end.
+    fn put_where(&mut self, field: Field, place: Place)
+        ensures { Written self.old (where_of field.0 place.0) self.new }
+    {
+        self.put_spaced(u64::from(field.0));
+        self.put_last(u64::from(place.0));
+    }
+
+    pub(crate) fn put_refusal(&mut self, number: u8, field: Field, place: Place)
+        ensures { Written self.old (refused_line (number, field.0, place.0)) self.new }
+    {
+        self.put_all(b"refused ");
+        self.put_decimal(u64::from(number));
+        self.put_where(field, place);
+    }
 }

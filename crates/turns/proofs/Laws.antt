@@ -1,4 +1,4 @@
--- One law for each return of the code, over plain variables; a function's laws stand in one ruleset.
+-- One law for each return of the code, over plain variables.
 pub mod Solo
 pub mod Alone
 pub mod Accepted

@@ -1,5 +1,5 @@
 -- A list of tickets, each given its turn in order: the words, and the byte that stands for each.
-use Rattle.std.specs.Prelude.{◌≡◌, Bool, true, cond, List, [], ◌∷◌, map, ℕ, eqb, length}
+use Rattle.std.specs.Prelude.{◌≡◌, Bool, true, cond, List, [], ◌∷◌, map, ℕ, eqb, length, Result, Ok, Err}
 use Rattle.theory.specs.Word as W
 unfoldable pub use Rattle.theory.specs.Word.{byte_of}
 use Rattle.theory.specs.Engine as E
@@ -8,8 +8,7 @@ use Rattle.rules.specs.Box.{box, limits}
 use Rattle.rules.specs.Block.{block_of}
 use Rattle.rules.specs.Turn.{Keeps}
 use Rattle.rules.specs.declared.block.Block.{Block}
-use Rattle.turns.specs.declared.many.Taking.{Taking}
-use Rattle.turns.specs.declared.many.Taking.TheVariants.{Taken as AllTaken, WrongLength}
+use Rattle.turns.specs.declared.many.WrongLength.{WrongLength}
 use Rattle.turns.specs.declared.many.Taken.{Taken}
 
 -- the word of each turn
@@ -20,10 +19,10 @@ words b (t ∷ ts) = (E.turn limits box b t).word ∷ words (E.turn limits box b
 unfoldable pub bytes : E.Block Running → List ℕ → List ℕ
 bytes b ts = map byte_of (words b ts)
 
--- the number of each answer, 0 where the turns were taken
-unfoldable pub taking_of : Taking → ℕ
-taking_of AllTaken = 0
-taking_of WrongLength = 15
+-- document 01's number of the refusal, 0 where the turns were taken
+unfoldable pub taking_of : {T : Type 0} → Result T WrongLength → ℕ
+taking_of (Ok t) = 0
+taking_of (Err e) = 15
 
 -- 15 where the bytes lent are not as many as the tickets, before any turn; else the turns in order
 unfoldable pub if_long : {A : Type 0} → List ℕ → List ℕ → A → A → A

@@ -1,5 +1,5 @@
 -- Document 01, "Opening": 12 for the start table, then the checker's refusals; else every job of the paper is fresh.
-use Rattle.std.specs.Prelude.{◌≡◌, not, cond, List, [], map, ℕ, ◌*◌, eqb, length, get_or, replicate}
+use Rattle.std.specs.Prelude.{◌≡◌, not, cond, List, [], map, ℕ, ◌*◌, eqb, length, get_or, replicate, Result, Ok, Err}
 use Rattle.theory.specs.Lists.{tab}
 use Rattle.theory.specs.Engine as E
 use Rattle.machine.specs.Limits.{FEW, JOBS, CELLS}
@@ -14,8 +14,8 @@ use Rattle.rules.specs.Block.{block_of}
 use Rattle.rules.specs.declared.block.Block.{Block}
 use Rattle.rules.specs.declared.block.Program.{Program}
 use Rattle.turns.specs.declared.open.Opened.{Opened}
-use Rattle.turns.specs.declared.open.Opening.{Opening}
-use Rattle.turns.specs.declared.open.Opening.TheVariants.{Accepted, WrongTable, Refused}
+use Rattle.turns.specs.declared.open.OpenRefusal.{OpenRefusal}
+use Rattle.turns.specs.declared.open.OpenRefusal.TheVariants.{WrongTable, Paper}
 
 -- no jobs, so no final jobs, and an all-zero table
 unfoldable pub nothing_open : E.Block Running
@@ -34,11 +34,11 @@ open_block start paper = cond (not (eqb (length start) CELLS)) nothing_open (ope
 unfoldable pub open_answer : List ℕ → List ℕ → ℕ × ℕ × ℕ
 open_answer start paper = cond (not (eqb (length start) CELLS)) (12, 0, 0) (refusal (paper_answer paper))
 
--- document 01's number, field and place of each answer
-unfoldable pub opening_of : Opening → ℕ × ℕ × ℕ
-opening_of Accepted = (0, 0, 0)
-opening_of WrongTable = (12, 0, 0)
-opening_of (Refused f g p) = (number f, g.0, p.0)
+-- document 01's number, field and place of each refusal; 0, 0 and 0 where there is none
+unfoldable pub opening_of : {T : Type 0} → Result T OpenRefusal → ℕ × ℕ × ℕ
+opening_of (Ok t) = (0, 0, 0)
+opening_of (Err WrongTable) = (12, 0, 0)
+opening_of (Err (Paper e)) = (number e.fault, e.field.0, e.place.0)
 
 -- ---- the same to the last byte
 -- a block of n jobs at their start, with these programs

@@ -1,5 +1,5 @@
 -- Document 01's serial run: 12 first, then the checker's refusals; else all jobs run, one after another, and the output is written whole.
-use Rattle.std.specs.Prelude.{◌≡◌, not, cond, List, [], ℕ, eqb, length, get_or}
+use Rattle.std.specs.Prelude.{◌≡◌, not, cond, List, [], ℕ, eqb, length, get_or, Result}
 use Rattle.theory.specs.Lists.{tab}
 use Rattle.theory.specs.Serial.{serial}
 use Rattle.machine.specs.Limits.{CELLS}
@@ -8,7 +8,7 @@ use Rattle.machine.specs.Paper.{Answer, jobs, refused, refusal, paper_answer}
 use Rattle.machine.specs.declared.instruction.Instruction.{Instruction}
 use Rattle.rules.specs.Box.{box}
 use Rattle.turns.specs.Open.{opening_of}
-use Rattle.turns.specs.declared.open.Opening.{Opening}
+use Rattle.turns.specs.declared.open.OpenRefusal.{OpenRefusal}
 
 -- the cells of a table
 abbrev pub cells_of : List ℕ → ℕ → ℕ
@@ -36,6 +36,6 @@ unfoldable pub serial_table : List ℕ → List ℕ → List ℕ → List ℕ
 serial_table start output paper = unless_wrong start output output (output_after start output (paper_answer paper))
 
 -- the whole of a serial run: the answer, and the output table after it
-pub record Serves (start output paper : List ℕ) (r : Opening) (after : List ℕ) : Type 0 where
+pub record Serves (start output paper : List ℕ) (r : Result Unit OpenRefusal) (after : List ℕ) : Type 0 where
   pub answer : opening_of r ≡ serial_answer start output paper
   pub table : after ≡ serial_table start output paper

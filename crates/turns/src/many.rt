@@ -8,93 +8,88 @@ ghost use Rattle.rules.specs.Own.{Long};
 ghost use Rattle.turns.specs.Many.{byte_of, TakesAll, Takes};
 
 use crate::sizes::block_fits;
-use crate::turn::{index_of, is_refused};
+use crate::turn::{index_of, refusal};
 use machine::counts::Ticket;
 use rules::block::Block;
-use rules::marks::mark_above;
-use rules::own::{Move, around_of, cell_read, own_of, shows_of, slot_of, take_own};
-use rules::program::program_step;
+use rules::marks::Changed;
+use rules::own::{Around, Move, Own, Turning, cell_read, slot_of};
 use words::word::Word;
 
-#[derive(Clone, Copy)]
-pub enum Taking {
-    Taken,
-    WrongLength,
-}
+// 15: the bytes lent are not as many as the tickets.
+#[derive(Clone, Copy, PartialEq, Eq)]
+pub struct WrongLength;
 
 // A refusal leaves the bytes and the block as they were.
 #[derive(Clone, Copy)]
 pub struct Taken {
     pub block: Block,
-    pub answer: Taking,
+    pub answer: Result<(), WrongLength>,
 }
 
 // The byte of what became of a turn.
 fn byte_after(done: Move) -> u8
     ensures { result ≡ byte_of (word_of done.word) }
 {
-    let word = done.word;
-    word.byte()
+    done.word.byte()
 }
 
-// The tickets take their turns in order, in this function's own block.
-fn take_all(mut b: Block, fits: bool, tickets: &[u8], words: &mut [u8]) -> Block
-    requires { (fits ≡ block_fits limits box (block_of b)) × (length words.old ≡ length tickets.now) × Long b }
-    ensures { TakesAll b tickets.now result words.new }
+// The tickets take their turns in order, in the block where it stands.
+fn take_all(b: &mut Block, fits: bool, tickets: &[u8], words: &mut [u8])
+    requires { (fits ≡ block_fits limits box (block_of b.old)) × (length words.old ≡ length tickets.now) × Long b.old }
+    ensures { TakesAll b.old tickets.now b.new words.new }
 {
-    let mut k: usize = 0;
-    while k < tickets.len() {
-        let at = k;
-        k = k + 1;
-        let t = Ticket(tickets[at]);
-        if is_refused(t, b.count, fits) {
-            words[at] = Word::NONE;
+    for (k, &ticket) in tickets.iter().enumerate() {
+        let t = Ticket(ticket);
+        if refusal(t, b.count, fits).is_some() {
+            words[k] = Word::NONE;
             continue;
         }
         let i = index_of(t);
         let list = b.reads[i];
         let slot = slot_of(i, list.size);
         let mark = slot_of(i, list.mark);
-        let here = b.checkpoints[slot];
-        let held = b.journals[i];
-        let own = own_of(b.states[i], b.status[i], held, b.versions[i], list, here);
-        let around = around_of(b.status, b.journals, b.versions);
-        let step = program_step(b.jobs[i], b.states[i]);
-        let first = b.start[cell_read(step)];
-        let done = take_own(step, own, b.checkpoints[mark], around, first, t);
+        let own = Own::of(b, i, slot);
+        let step = b.jobs[i].step(own.state);
+        let taking = Turning {
+            own: &own,
+            around: &Around::of(b),
+            first: b.start[cell_read(step)],
+            ticket: t,
+        };
+        let done = taking.take(step, b.checkpoints[mark]);
         let after = done.own;
-        let state = after.state;
-        let journal = after.journal;
-        let versions = after.versions;
-        let reads = after.list;
-        let saved = after.slot;
-        words[at] = byte_after(done);
-        b.states[i] = state;
+        words[k] = byte_after(done);
+        b.states[i] = after.state;
         b.status[i] = after.status;
-        b.journals[i] = journal;
-        b.versions[i] = versions;
-        b.reads[i] = reads;
-        b.checkpoints[slot] = saved;
+        b.journals[i] = after.journal;
+        b.versions[i] = after.versions;
+        b.reads[i] = after.list;
+        b.checkpoints[slot] = after.slot;
         if done.marks {
-            b.reads = mark_above(b.reads, b.count, shows_of(own), shows_of(after), t);
+            let changed = Changed {
+                old: own.shows(),
+                new: after.shows(),
+                ticket: t,
+            };
+            b.reads = changed.mark_above(b.reads, b.count);
         }
     }
-    b
 }
 
 // There must be a byte for each ticket; the sizes are tested once, since a turn keeps them.
-pub fn take_turns(b: Block, tickets: &[u8], words: &mut [u8]) -> Taken
+pub fn take_turns(mut b: Block, tickets: &[u8], words: &mut [u8]) -> Taken
     ensures { Takes b tickets.now words.old result words.new }
 {
     if words.len() != tickets.len() {
         return Taken {
             block: b,
-            answer: Taking::WrongLength,
+            answer: Err(WrongLength),
         };
     }
-    let fits = block_fits(b);
+    let fits = block_fits(&b);
+    take_all(&mut b, fits, tickets, words);
     Taken {
-        block: take_all(b, fits, tickets, words),
-        answer: Taking::Taken,
+        block: b,
+        answer: Ok(()),
     }
 }

@@ -1,44 +1,39 @@
 // The opening: a block in work with every job fresh; or a refusal, and a block with no jobs and an all-zero table.
-ghost use Rattle.std.specs.Prelude.{◌≡◌, [], length, replicate};
+ghost use Rattle.std.specs.Prelude.{◌≡◌, [], replicate};
 ghost use Rattle.machine.specs.Limits.{CELLS};
-ghost use Rattle.machine.specs.Paper.{refusal};
-ghost use Rattle.machine.specs.View.{answer_of};
 ghost use Rattle.rules.specs.View.{empty_reads};
-ghost use Rattle.turns.specs.Open.{filled_block, whole_block, opening_of, Opens};
+ghost use Rattle.turns.specs.declared.open.OpenRefusal.TheVariants.{Paper};
+ghost use Rattle.turns.specs.Open.{filled_block, whole_block, Opens};
 
-use machine::counts::{Cell, Place, Ticket};
+use machine::counts::{Cell, Ticket};
 use machine::job::Job;
-use machine::paper::{Field, Verdict, check_paper};
-use machine::verdict::Fault;
-use rules::block::{Block, Checkpoint, Program, Read, Reads};
-use rules::journal::no_entries;
-use rules::program::{programs_of, stops};
-use rules::versions::no_versions;
+use machine::paper::{Refusal, check_paper};
+use rules::block::{Block, Checkpoint, Journal, Program, Read, Reads, Versions};
+use rules::program::programs_of;
 
-#[derive(Clone, Copy)]
-pub enum Opening {
-    Accepted,
+// The cells of a whole table.
+pub(crate) type Table = [u64; Cell::COUNT as usize];
+
+// 12 for a table that is not whole, or the checker's refusal of the paper.
+#[derive(Clone, Copy, PartialEq, Eq)]
+pub enum OpenRefusal {
     WrongTable,
-    Refused(Fault, Field, Place),
+    Paper(Refusal),
 }
 
+impl From<Refusal> for OpenRefusal {
+    ghost from_gives = { λ e r. r ≡ Paper e };
+
+    fn from(refusal: Refusal) -> OpenRefusal {
+        OpenRefusal::Paper(refusal)
+    }
+}
+
+// A refused opening yields a block too.
 #[derive(Clone, Copy)]
 pub struct Opened {
     pub block: Block,
-    pub answer: Opening,
-}
-
-fn table_of(start: &[u64]) -> [u64; Cell::COUNT as usize]
-    requires { length start.now ≡ CELLS }
-    ensures { result ≡ start.now }
-{
-    let mut table = [0; Cell::COUNT as usize];
-    let mut k: usize = 0;
-    while k < start.len() {
-        table[k] = start[k];
-        k = k + 1;
-    }
-    table
+    pub answer: Result<(), OpenRefusal>,
 }
 
 // A job that has read nothing is marked nowhere.
@@ -58,31 +53,24 @@ fn no_reads() -> Reads
 }
 
 // The first count jobs, each at its start.
-fn fresh_block(
-    table: [u64; Cell::COUNT as usize],
-    count: u8,
-    jobs: [Program; Job::MOST as usize],
-) -> Block
+fn fresh_block(table: Table, count: u8, jobs: [Program; Job::MOST as usize]) -> Block
     ensures { result ≡ filled_block table count jobs }
 {
     let state = Job::fresh();
-    let journal = no_entries();
-    let versions = no_versions();
-    let reads = no_reads();
     let checkpoint = Checkpoint {
-        state: state,
+        state,
         writes: 0,
         listed: 0,
     };
     Block {
         start: table,
-        count: count,
-        jobs: jobs,
+        count,
+        jobs,
         states: [state; Job::MOST as usize],
         status: [Block::RUNNING; Job::MOST as usize],
-        journals: [journal; Job::MOST as usize],
-        versions: [versions; Job::MOST as usize],
-        reads: [reads; Job::MOST as usize],
+        journals: [Journal::empty(); Job::MOST as usize],
+        versions: [Versions::empty(); Job::MOST as usize],
+        reads: [no_reads(); Job::MOST as usize],
         checkpoints: [checkpoint; Block::SLOTS * (Job::MOST as usize)],
     }
 }
@@ -91,43 +79,35 @@ fn fresh_block(
 fn nothing_open() -> Block
     ensures { result ≡ whole_block (replicate CELLS 0) [] }
 {
-    let empty = stops(0);
-    fresh_block([0; Cell::COUNT as usize], 0, [empty; Job::MOST as usize])
-}
-
-// The checker's refusal.
-pub(crate) fn refuse_opening(verdict: Verdict) -> Opening
-    ensures { opening_of result ≡ refusal (answer_of verdict 0 []) }
-{
-    match verdict {
-        Verdict::Accepted => Opening::Accepted,
-        Verdict::Refused(f, g, p) => Opening::Refused(f, g, p),
-    }
+    fresh_block(
+        [0; Cell::COUNT as usize],
+        0,
+        [Program::stops(0); Job::MOST as usize],
+    )
 }
 
 // The start table is tested for 12, then the paper is checked.
 pub fn open(start: &[u64], paper: &[u8]) -> Opened
     ensures { Opens start.now paper.now result }
 {
-    if start.len() != (Cell::COUNT as usize) {
+    let Ok(table) = Table::try_from(start) else {
         return Opened {
             block: nothing_open(),
-            answer: Opening::WrongTable,
-        };
-    }
-    let checked = check_paper(paper);
-    let verdict = checked.verdict;
-    let Verdict::Accepted = verdict else {
-        return Opened {
-            block: nothing_open(),
-            answer: refuse_opening(verdict),
+            answer: Err(OpenRefusal::WrongTable),
         };
     };
-    let table = table_of(start);
-    let jobs = checked.jobs;
-    let programs = programs_of(jobs, checked.count);
+    let all = match check_paper(paper) {
+        Ok(all) => all,
+        Err(refusal) => {
+            return Opened {
+                block: nothing_open(),
+                answer: Err(refusal.into()),
+            };
+        }
+    };
+    let programs = programs_of(&all.jobs[..all.count as usize]);
     Opened {
-        block: fresh_block(table, checked.count, programs),
-        answer: Opening::Accepted,
+        block: fresh_block(table, all.count, programs),
+        answer: Ok(()),
     }
 }

@@ -1,108 +1,66 @@
 // The settled table: what the final jobs leave, read from the versions.
-ghost use Rattle.std.specs.Prelude.{◌≡◌, ◌≤◌, length};
+ghost use Rattle.std.specs.Prelude.{◌≡◌, ◌≤◌};
 ghost use Rattle.theory.specs.Lists.{tab};
 ghost use Rattle.machine.specs.Limits.{JOBS, CELLS};
-ghost use Rattle.rules.specs.View.{Showing};
-ghost use Rattle.turns.specs.Settled.{final_one, finals_below, cell_found, InTable, Showed, Settleable, Settles};
+ghost use Rattle.rules.specs.View.{versions_of, Showing};
+ghost use Rattle.turns.specs.SerialRun.{cells_of};
+ghost use Rattle.turns.specs.Settled.{finals_below, cell_found, InTable, shown_over, Settleable, Settles};
 
-use crate::serial::copy_table;
+use crate::open::Table;
 use crate::sizes::block_fits;
 use machine::counts::Cell;
 use machine::job::Job;
 use rules::block::{Block, Journal, Versions};
-use rules::journal::entry_at;
 
-// Whether the table was written, and else 12 or 20.
-#[derive(Clone, Copy)]
-pub enum Settling {
-    Written,
+// 12 for a table that is not whole, 20 for a block that does not fit.
+#[derive(Clone, Copy, PartialEq, Eq)]
+pub enum SettleRefusal {
     WrongTable,
     Misfit,
 }
 
-// With the number of final jobs, 0 for a refusal.
-#[derive(Clone, Copy)]
-pub struct Settled {
-    pub answer: Settling,
-    pub f: u8,
-}
-
-// What one job adds to the number of final jobs.
-fn final_one(status: u8) -> u8
-    ensures { result ≡ final_one status }
-{
-    if status < Block::FINAL {
-        return 0;
-    }
-    1
-}
-
 // How many of the first count jobs are final.
-fn count_finals(status: [u8; Job::MOST as usize], count: u8) -> u8
+fn count_finals(status: &[u8; Job::MOST as usize], count: u8) -> u8
     requires { count ≤ JOBS }
-    ensures { result ≡ finals_below status count }
+    ensures { result ≡ finals_below status.now count }
 {
-    let mut f: u8 = 0;
-    let mut k: u8 = 0;
-    while k < count {
-        let s = status[k as usize];
-        f = f + final_one(s);
-        k = k + 1;
-    }
-    f
+    let first = &status[..count as usize];
+    first.iter().filter(|s| Block::FINAL <= **s).count() as u8
 }
 
 // A job's public versions over the table, from the last to the first, so that the first of a cell stands.
-fn apply_versions(j: Journal, v: Versions, table: &mut [u64])
-    requires { Showing j v × InTable j × (length table.old ≡ CELLS) }
-    ensures { Showed j v table.old table.new }
+fn apply_versions(j: Journal, v: Versions, table: &mut Table)
+    requires { Showing j v × InTable j }
+    ensures { cells_of table.new ≡ shown_over j (versions_of v) (cells_of table.old) }
 {
-    let mut k = v.size;
-    while 0 < k {
-        let number = v.numbers[(k - 1) as usize];
-        let e = entry_at(j, number);
-        let at = e.cell.0 as usize;
-        table[at] = e.value;
-        k = k - 1;
+    for k in (0..v.size).rev() {
+        let e = j.entry_at(v.numbers[k as usize]);
+        table[e.cell.0 as usize] = e.value;
     }
 }
 
 // The start table, and over it what the jobs of the tickets 1 to f show, in their order: each cell as a reader above them finds it.
-fn settle_cells(b: Block, f: u8, table: &mut [u64])
-    requires { (f ≤ JOBS) × Settleable b f × (length table.old ≡ CELLS) }
-    ensures { table.new ≡ tab CELLS (cell_found b f) }
+fn settle_cells(b: &Block, f: u8, table: &mut Table)
+    requires { (f ≤ JOBS) × Settleable b.now f }
+    ensures { table.new ≡ tab CELLS (cell_found b.now f) }
 {
-    copy_table(&b.start, table);
-    let mut k: u8 = 0;
-    while k < f {
-        let j = b.journals[k as usize];
-        let v = b.versions[k as usize];
-        apply_versions(j, v, table);
-        k = k + 1;
+    *table = b.start;
+    for k in 0..f as usize {
+        apply_versions(b.journals[k], b.versions[k], table);
     }
 }
 
-// The table is tested for 12, then the sizes for 20, before any cell is written; else every cell is.
-pub fn settled_table(b: Block, table: &mut [u64]) -> Settled
+// The number of final jobs. The table is tested for 12, then the sizes for 20, before any cell is written; else every cell is.
+pub fn settled_table(b: Block, table: &mut [u64]) -> Result<u8, SettleRefusal>
     ensures { Settles b table.old result table.new }
 {
-    if table.len() != (Cell::COUNT as usize) {
-        return Settled {
-            answer: Settling::WrongTable,
-            f: 0,
-        };
+    if table.len() != Cell::COUNT as usize {
+        return Err(SettleRefusal::WrongTable);
     }
-    if !block_fits(b) {
-        return Settled {
-            answer: Settling::Misfit,
-            f: 0,
-        };
+    if !block_fits(&b) {
+        return Err(SettleRefusal::Misfit);
     }
-    let status = b.status;
-    let f = count_finals(status, b.count);
-    settle_cells(b, f, table);
-    Settled {
-        answer: Settling::Written,
-        f: f,
-    }
+    let f = count_finals(&b.status, b.count);
+    settle_cells(&b, f, table.first_chunk_mut().unwrap());
+    Ok(f)
 }

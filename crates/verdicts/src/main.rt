@@ -5,109 +5,84 @@
 // fails ends the program with its error.
 #![tactic(auto)]
 
-ghost use Rattle.std.specs.Prelude.{◌≤◌};
+ghost use Rattle.std.specs.Prelude.{◌<◌, IfSome};
 
-use machine::paper::{Verdict, check_paper};
+use machine::paper::check_paper;
 use std::io;
 use std::io::{ErrorKind, Read, Write};
 
-// Where the text is: between words, in a word or just behind it, in a comment, or past a word that is wrong.
+// Where the text is: between words, behind a first digit that waits for its second, behind a whole word, in a comment,
+// or past a word that is wrong.
 #[derive(Clone, Copy)]
 enum At {
     Gap,
+    Half(u8),
     Word,
     Comment,
     Wrong,
 }
 
-// What was read: so many bytes of a paper, a digit that waits for its second (or none), where the text is, its line,
-// and the line of the last byte.
+// What was read: so many bytes of a paper, where the text is, its line, and the line of the last byte.
 #[derive(Clone, Copy)]
 struct Reader {
     size: usize,
-    digit: u8,
     at: At,
     line: u64,
     last: u64,
 }
 
 impl Reader {
-    // The value of no digit.
-    const NO_DIGIT: u8 = 16;
-
     fn fresh() -> Reader {
         Reader {
             size: 0,
-            digit: Reader::NO_DIGIT,
             at: At::Gap,
             line: 1,
             last: 1,
         }
     }
 
-    // So many bytes of a paper, and no digit waits.
+    // So many bytes of a paper.
     fn with(self, size: usize, at: At) -> Reader {
-        Reader {
-            size: size,
-            digit: Reader::NO_DIGIT,
-            at: at,
-            line: self.line,
-            last: self.last,
-        }
+        Reader { size, at, ..self }
     }
 
     fn with_digit(self, digit: u8) -> Reader {
         Reader {
-            size: self.size,
-            digit: digit,
-            at: At::Word,
-            line: self.line,
+            at: At::Half(digit),
             last: self.line,
+            ..self
         }
     }
 
     fn next_line(self) -> Reader {
         Reader {
-            size: self.size,
-            digit: Reader::NO_DIGIT,
             at: At::Gap,
             line: self.line.wrapping_add(1),
-            last: self.last,
+            ..self
         }
     }
 }
 
-// The value of a hexadecimal digit, or none.
-fn digit_of(b: u8) -> u8
-    ensures { result ≤ 16 }
+// The value of a hexadecimal digit.
+fn digit_of(b: u8) -> Option<u8>
+    ensures { IfSome result (λ d. d < 16) }
 {
     match b {
-        b'0'..=b'9' => b - b'0',
-        b'a'..=b'f' => b - b'a' + 10,
-        b'A'..=b'F' => b - b'A' + 10,
-        _ => Reader::NO_DIGIT,
+        b'0'..=b'9' => Some(b - b'0'),
+        b'a'..=b'f' => Some(b - b'a' + 10),
+        b'A'..=b'F' => Some(b - b'A' + 10),
+        _ => None,
     }
-}
-
-fn say<O: Write>(out: &mut O, word: &[u8], number: u8) -> io::Result<()> {
-    out.write_all(word)?;
-    write!(out, "{number}")
 }
 
 fn answer<O: Write>(out: &mut O, paper: &[u8]) -> io::Result<()> {
-    let checked = check_paper(paper);
-    let verdict = checked.verdict;
-    match verdict {
-        Verdict::Accepted => {
-            say(out, b"passes ", checked.count)?;
-        }
-        Verdict::Refused(fault, field, place) => {
-            say(out, b"refused ", fault.number())?;
-            say(out, b" ", field.0)?;
-            say(out, b" ", place.0)?;
+    match check_paper(paper) {
+        Ok(jobs) => writeln!(out, "passes {}", jobs.count),
+        Err(refusal) => {
+            let (number, field, place) = (refusal.fault.number(), refusal.field.0, refusal.place.0);
+            writeln!(out, "refused {number} {field} {place}")
         }
     }
-    out.write_all(b"\n")
 }
 
 // The answer to the first bytes of the buffer.
@@ -118,14 +93,13 @@ fn answer_first<O: Write>(out: &mut O, buffer: &[u8], size: usize) -> io::Result
     Ok(())
 }
 
-fn tell<E: Write>(err: &mut E, line: u64, what: &[u8]) -> io::Result<()> {
-    write!(err, "line {line}")?;
-    err.write_all(what)
+fn tell<E: Write>(err: &mut E, line: u64, what: &str) -> io::Result<()> {
+    writeln!(err, "line {line}: {what}")
 }
 
 // A word that is no byte ends the papers.
 fn refuse_word<E: Write>(err: &mut E, r: Reader) -> io::Result<Reader> {
-    tell(err, r.line, b": not a byte of two hex digits\n")?;
+    tell(err, r.line, "not a byte of two hex digits")?;
     Ok(r.with(0, At::Wrong))
 }
 
@@ -147,8 +121,7 @@ fn begin_word<O: Write, E: Write>(
     r: Reader,
     b: u8,
 ) -> io::Result<Reader> {
-    let digit = digit_of(b);
-    if digit < Reader::NO_DIGIT {
+    if let Some(digit) = digit_of(b) {
         return Ok(r.with_digit(digit));
     }
     if b == b'.' {
@@ -158,29 +131,22 @@ fn begin_word<O: Write, E: Write>(
     part_words(err, r, b)
 }
 
-// The reader after a further byte: the second digit, or what follows a whole word. A byte past the buffer is dropped.
-fn end_word<E: Write>(err: &mut E, paper: &mut [u8], r: Reader, b: u8) -> io::Result<Reader> {
-    let size = r.size;
-    let high = r.digit;
-    if Reader::NO_DIGIT <= high {
-        return part_words(err, r, b);
-    }
-    let low = digit_of(b);
-    if Reader::NO_DIGIT <= low {
+// The reader after the byte behind a first digit. A byte past the buffer is dropped.
+fn end_byte<E: Write>(
+    err: &mut E,
+    paper: &mut [u8],
+    r: Reader,
+    high: u8,
+    b: u8,
+) -> io::Result<Reader> {
+    let Some(low) = digit_of(b) else {
         return refuse_word(err, r);
+    };
+    if r.size < paper.len() {
+        paper[r.size] = high << 4 | low;
+        return Ok(r.with(r.size + 1, At::Word));
     }
-    if size < paper.len() {
-        paper[size] = high * 16 + low;
-        return Ok(r.with(size + 1, At::Word));
-    }
-    Ok(r.with(size, At::Word))
-}
-
-fn skip_comment(r: Reader, b: u8) -> Reader {
-    if b == b'\n' {
-        return r.next_line();
-    }
-    r
+    Ok(r.with(r.size, At::Word))
 }
 
 // The reader after one byte.
@@ -191,12 +157,12 @@ fn read_byte<O: Write, E: Write>(
     r: Reader,
     b: u8,
 ) -> io::Result<Reader> {
-    let at = r.at;
-    match at {
+    match r.at {
         At::Gap => begin_word(out, err, paper, r, b),
-        At::Word => end_word(err, paper, r, b),
-        At::Comment => Ok(skip_comment(r, b)),
-        At::Wrong => Ok(r),
+        At::Half(high) => end_byte(err, paper, r, high, b),
+        At::Word => part_words(err, r, b),
+        At::Comment if b == b'\n' => Ok(r.next_line()),
+        At::Comment | At::Wrong => Ok(r),
     }
 }
 
@@ -216,12 +182,10 @@ fn read_bytes<O: Write, E: Write>(
 
 // Half a byte, or a paper without its dot, is told at the end of the text.
 fn end_text<E: Write>(err: &mut E, r: Reader) -> io::Result<()> {
-    if r.digit < Reader::NO_DIGIT {
+    if let At::Half(_) = r.at {
         refuse_word(err, r)?;
-        return Ok(());
-    }
-    if r.size > 0 {
-        tell(err, r.last, b": no dot after the last paper\n")?;
+    } else if r.size > 0 {
+        tell(err, r.last, "no dot after the last paper")?;
     }
     Ok(())
 }

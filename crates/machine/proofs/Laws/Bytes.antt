@@ -1,8 +1,7 @@
 -- A number in bytes is gathered from its high end: each byte joins below what is gathered so far, which 8 bytes cannot bring past 2^64.
-use Rattle.std.proofs.Common.{◌≡◌, ℕ, zero, suc, ◌+◌, ◌-◌, ◌*◌, ◌^◌, ◌<◌, ◌≤◌, cond, leb, List, ◌∷◌, length, get_or, drop, refl, ap, ◌∙◌, pow-suc, arith, drop-cons, w64, Fits, le-leb}
+use Rattle.std.proofs.Common.{◌≡◌, ℕ, zero, suc, ◌+◌, ◌-◌, ◌*◌, ◌^◌, ◌<◌, ◌≤◌, List, ◌∷◌, length, get_or, drop, refl, ap, ◌∙◌, pow-suc, arith, drop-cons, w64, Fits}
 use native.Mathlib.Nat.{pow-le-pow_right, one-le-pow}
 use lib.Seq.{drop-length}
-use borrow.Author.Tests.{lt-leb}
 use Rattle.machine.specs.Paper.{little}
 
 module _ (bs : List ℕ) where
@@ -40,12 +39,4 @@ module _ (bs : List ℕ) where
   gather_end zero number l e = e
   gather_end (suc n) number l e = absurd (omega arith)
 
-  pub little_many : 8 < length bs → 0 ≡ cond (leb (length bs) 8) (little bs) 0
-  little_many l = simp (lt-leb _ _ l)
-
-  pub little_few : (r : ℕ) → length bs ≤ 8 → r ≡ little bs → r ≡ cond (leb (length bs) 8) (little bs) 0
-  little_few r l e = simp (le-leb _ _ l) e
-
 pub ruleset gather_laws = (gather_start, gather_low, gather_on, gather_below, gather_sum, gather_product, gather_end)
-
-pub ruleset little_laws = (little_many, little_few)

@@ -1,26 +1,18 @@
--- What a test in the code tells of the definition that it answers.
-use Rattle.std.proofs.Common.{◌≡◌, Bool, true, false, not, sym, ap, ◌∙◌}
-use borrow.Author.Tests.{not-true, not-false}
+-- What a check that found nothing tells of the definition that it answers.
+use Rattle.std.proofs.Common.{◌≡◌, Result, Ok, Err, sym, ap, ◌∙◌}
 use Rattle.machine.specs.Verdict.{Finding, sound}
 use Rattle.machine.specs.View.{finding_of}
-use Rattle.machine.specs.declared.verdict.Check.{Check}
-use Rattle.machine.specs.declared.verdict.Check.TheVariants.{Passes}
+use Rattle.machine.specs.declared.counts.Place.{Place}
+use Rattle.machine.specs.declared.verdict.Fault.{Fault}
+use Rattle.machine.specs.declared.verdict.Flaw.{Flaw}
 
-module _ (b x : Bool) (e : b ≡ x) where
-  pub held : b ≡ true → x ≡ true
-  held t = sym e ∙ t
+-- a check that found nothing, and one that found a flaw
+abbrev pub passing : Result (Unit {0}) Flaw
+passing = Ok tt
 
-  pub failed : b ≡ false → x ≡ false
-  failed t = sym e ∙ t
+abbrev pub flaw : Fault → Place → Result (Unit {0}) Flaw
+flaw x p = Err (record { fault = x; place = p })
 
-  pub not_failed : not b ≡ false → x ≡ true
-  not_failed t = sym e ∙ not-false b t
-
-  pub not_held : not b ≡ true → x ≡ false
-  not_held t = sym e ∙ not-true b t
-
-pub passed : (v : Check) (f : Finding) → finding_of v ≡ f → v ≡ Passes → f ≡ sound
+pub passed : (v : Result (Unit {0}) Flaw) (f : Finding) → finding_of v ≡ f → v ≡ Ok tt → f ≡ sound
 unfolding finding_of
 passed v f e t = sym e ∙ ap finding_of t
-
-pub ruleset test_laws = (held, failed, not_failed, not_held, passed)

@@ -1,10 +1,10 @@
 -- A job's parts put back into their block: what did not change is stored as it was, so the block is the one of the plain move.
 use mathlib.Core.Path.{◌≡◌, refl, ap}
 use mathlib.Core.List.{List, [], ◌∷◌, ◌++◌}
-use Prim.Native.Nat.{ℕ, zero, suc, ◌-◌, ◌≤◌, ◌<◌, ◌+◌, ◌*◌}
+use Prim.Native.Nat.{ℕ, zero, suc, ◌-◌, ◌≤◌, ◌<◌}
 use native.Mathlib.Omega.{arith}
 use lib.ListN.{get_or, set}
-use borrow.Author.Tests.{le-leb, lt-leb}
+use borrow.Author.Tests.{lt-leb}
 use Rattle.theory.specs.Engine.{step_to, write_to, list_to, end_with, settle, go_back, withdrawn}
 use Rattle.machine.specs.declared.job.State.{State}
 use Rattle.rules.specs.View.{entry_of, journal_of, versions_of, no_journal, no_versions, no_reads}
@@ -22,14 +22,6 @@ use Rattle.rules.specs.declared.block.Block.{Block}
 use Rattle.words.specs.declared.word.Word.{Word}
 use Rattle.rules.specs.declared.own.Own.{Own}
 use Rattle.rules.proofs.Laws.Moves.{step_is, settle_is, write_is, list_is, end_is, back_is}
-
--- ---- where a checkpoint stands
-module _ (i n : ℕ) where
-  pub slot_past : 8 ≤ n → 8 * i + 7 ≡ slot_at i n
-  slot_past l = rw (le-leb 8 n l) refl
-
-  pub slot_at_lem : n < 8 → 8 * i + n ≡ slot_at i n
-  slot_at_lem l = rw (lt-leb 8 n l) refl
 
 set_same : {A : Type 0} (xs : List A) (i : ℕ) (d : A) → set xs i (get_or xs i d) ≡ xs
 set_same [] i d = refl

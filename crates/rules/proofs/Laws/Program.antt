@@ -2,14 +2,15 @@
 -- one by one is the packed one, stands for them, and its step is theirs.
 use mathlib.Core.Path.{◌≡◌, refl, ap, sym, ◌∙◌}
 use mathlib.Core.Bool.{Bool, true, false, cond, ◌&&◌, ◌||◌}
-use mathlib.Core.List.{List, []}
+use mathlib.Core.List.{List, [], map}
 use Prim.Native.Nat.{ℕ, zero, suc, ◌+◌, ◌≤◌, ◌<◌}
 use native.Mathlib.Omega.{arith}
 use native.Mathlib.Decide.{ℕ_discrete}
 use lib.Dec.{eqb, leb, ltb}
-use lib.ListN.{length, get_or, set, replicate, length-map, get_or-map, get_or-eq_default}
-use borrow.Author.Tests.{leb-true, ltb-true, lt-ltb, le-ltb, eq-eqb, ne_eqb}
-use Rattle.theory.specs.Lists.{firsts, length_firsts, get_d_firsts, tab, get_d_tab, tab_same}
+use lib.ListN.{length, get_or, set, take, length-map, get_or-map, get_or-eq_default}
+use Rattle.std.proofs.lemmas.List.{get_or-take, length-take-le}
+use borrow.Author.Tests.{leb-true, ltb-true, ne_eqb}
+use Rattle.theory.specs.Lists.{firsts, length_firsts, firsts_take, get_d_firsts, tab, get_d_tab, tab_same}
 use Rattle.theory.proofs.ReadSizes.{both}
 use Rattle.machine.specs.Limits.{LONGEST, ROOM, JOBS}
 use Rattle.machine.specs.Instruction.{DUP, SWAP, JUMP}
@@ -20,11 +21,11 @@ use Rattle.machine.specs.declared.job.Job.{Job}
 use Rattle.machine.specs.declared.job.State.{State}
 use Rattle.machine.specs.declared.step.Stepped.{Stepped}
 use Rattle.rules.specs.Box.{box_checked}
-use Rattle.rules.specs.Program.{stops_of, argument_of, pushed_of, packed, argument_byte, operand_of, instruction_in, program_of, length_program, program_at, first_jobs, all_packed}
-use Rattle.rules.specs.Steps.{StepsIn, Passes}
+use Rattle.rules.specs.Program.{stops_of, argument_of, pushed_of, packed, operand_of, instruction_in, program_of, length_program, program_at, first_jobs, all_packed}
+use Rattle.rules.specs.Steps.{StepsIn, Passes, AllPass}
 use Rattle.rules.specs.Sizes.{instruction_within, by_code, keeps_at}
 use Rattle.rules.specs.declared.block.Program.{Program}
-use Rattle.rules.proofs.Laws.Filled.{Filling, fill_start, fill_on, fill_end, tab_get_d}
+use Rattle.rules.proofs.Laws.Filled.{Filling, fill_start, fill_on, fill_past, fill_end, tab_get_d}
 use Rattle.rules.proofs.Laws.Code.{bounds_are}
 
 -- ---- a byte holds an operand that is not PUSH's
@@ -46,34 +47,6 @@ module _ (n p c x : ℕ) (few : n ≤ 64) (within : instruction_within n p (reco
       let a : (eqb c 2 || (leb (by_code c (suc p) 1 0) x && ltb x (by_code c n 16 1))) ≡ true = (both (leb c 13) _ (bounds_are n p x c ∙ kept)).1 in
       let b = (both (leb (by_code c (suc p) 1 0) x) (ltb x (by_code c n 16 1)) (rw e at a)).1 in
       omega (arith, ltb-true x (by_code c n 16 1) b, limit_low c n few)
-
-  pub packed_argument : argument_byte (record { code = c; operand = x }) ≡ argument_of (record { code = c; operand = x })
-  packed_argument = go (eqb c 2) refl
-    where
-      go : (t : Bool) → eqb c 2 ≡ t → cond t 0 (cond (ltb x 256) x 0) ≡ cond t 0 x
-      go true e = refl
-      go false e = rw (lt-ltb _ _ (small e)) refl
-
-module _ (i : Instruction) where
-  pub argument_push : i.code ≡ 2 → 0 ≡ argument_byte i
-  argument_push e = rw (eq-eqb _ _ e) refl
-
-  module _ (n : i.code ≡ 2 → ⊥) where
-    pub argument_small : i.operand < 256 → i.operand ≡ argument_byte i
-    argument_small l = rw (ne_eqb _ _ n, lt-ltb _ _ l) refl
-
-    pub argument_large : 256 ≤ i.operand → 0 ≡ argument_byte i
-    argument_large l = rw (ne_eqb _ _ n, le-ltb _ _ l) refl
-
-    pub pushed_none : 0 ≡ pushed_of i
-    pushed_none = rw (ne_eqb _ _ n) refl
-
-  pub pushed_push : i.code ≡ 2 → i.operand ≡ pushed_of i
-  pushed_push e = rw (eq-eqb _ _ e) refl
-
-pub ruleset argument_laws = (argument_push, argument_small, argument_large)
-
-pub ruleset pushed_laws = (pushed_push, pushed_none)
 
 -- ---- a job that passed
 formed_each : (is : List Instruction) (n m : ℕ) → formed is n m ≡ true → (k : ℕ) → k < m → instruction_within n k (get_or is k stopping) ≡ true
@@ -107,6 +80,9 @@ module _ (job : Job) (pass : Passes job) where
   passed_within : (k : ℕ) → k < job.size → instruction_within job.size k (get_or job.code k stopping) ≡ true
   passed_within k l = rw (long, get_d_firsts job.size stopping job.code k l) at (formed_each (code_of job) many many fit.1 k (omega (arith, l, long)))
 
+  pub passed_small : (k : ℕ) → k < job.size → ((get_or job.code k stopping).code ≡ 2 → ⊥) → (get_or job.code k stopping).operand < 256
+  passed_small k l n = small job.size k _ _ passed_few (passed_within k l) (ne_eqb _ 2 n)
+
 -- ---- a program, instruction by instruction
 abbrev at : Job → ℕ → Instruction
 at job k = get_or (code_of job) k stopping
@@ -116,28 +92,42 @@ pub record Packing (job : Job) (p : Program) (k : ℕ) : Type 0 where
   pub arguments : Filling 0 (λ i. argument_of (at job i)) LONGEST k p.arguments
   pub pushed : Filling 0 (λ i. pushed_of (at job i)) LONGEST k p.pushed
   pub size : p.size ≡ job.size
-  pub low : k ≤ job.size
+  pub few : job.size ≤ 64
 
 module _ (job : Job) (pass : Passes job) where
   pub pack_start : (p : Program) → p ≡ stops_of job.size → Packing job p 0
-  pack_start p e = rw e (record { codes = fill_start 0 _ LONGEST; arguments = fill_start 0 _ LONGEST; pushed = fill_start 0 _ LONGEST; size = refl; low = omega arith })
+  pack_start p e = rw e (record { codes = fill_start 0 _ LONGEST; arguments = fill_start 0 _ LONGEST; pushed = fill_start 0 _ LONGEST; size = refl; few = passed_few job pass })
 
   module _ (p : Program) (k : ℕ) (g : Packing job p k) where
-    pub pack_on : k < job.size → (a q : ℕ) → a ≡ argument_byte (get_or job.code k stopping) → q ≡ pushed_of (get_or job.code k stopping)
-        → Packing job (record { codes = set p.codes k (get_or job.code k stopping).code; arguments = set p.arguments k a; pushed = set p.pushed k q; size = p.size }) (k + 1)
-    pack_on l a q ea eq = record {
-      codes = fill_on 0 _ LONGEST k p.codes g.codes low _ (ap (λ (i : Instruction). i.code) same);
-      arguments = fill_on 0 _ LONGEST k p.arguments g.arguments low a (ea ∙ packed_argument job.size k _ _ (passed_few job pass) (passed_within job pass k l) ∙ ap argument_of same);
-      pushed = fill_on 0 _ LONGEST k p.pushed g.pushed low q (eq ∙ ap pushed_of same);
-      size = g.size;
-      low = omega (arith, l);
-    }
-      where
-        low : k < LONGEST
-        low = omega (arith, l, passed_few job pass)
+    module _ (l : k < job.size) where
+      low : k < LONGEST
+      low = omega (arith, l, g.few)
 
-        same : get_or job.code k stopping ≡ at job k
-        same = sym (get_d_firsts job.size stopping job.code k l)
+      same : get_or job.code k stopping ≡ at job k
+      same = sym (get_d_firsts job.size stopping job.code k l)
+
+      codes_on : Filling 0 (λ i. (at job i).code) LONGEST (k + 1) (set p.codes k (get_or job.code k stopping).code)
+      codes_on = fill_on 0 _ LONGEST k p.codes g.codes low _ (ap (λ (i : Instruction). i.code) same)
+
+      pub pack_push : (get_or job.code k stopping).code ≡ 2
+          → Packing job (record p { codes = set p.codes k (get_or job.code k stopping).code; pushed = set p.pushed k (get_or job.code k stopping).operand }) (k + 1)
+      pack_push e = record {
+        codes = codes_on;
+        arguments = fill_past 0 _ LONGEST k p.arguments g.arguments low (rw (← same, e) refl);
+        pushed = fill_on 0 _ LONGEST k p.pushed g.pushed low _ (rw (← same, e) refl);
+        size = g.size;
+        few = g.few;
+      }
+
+      pub pack_other : ((get_or job.code k stopping).code ≡ 2 → ⊥) → (a : ℕ) → a ≡ (get_or job.code k stopping).operand
+          → Packing job (record p { codes = set p.codes k (get_or job.code k stopping).code; arguments = set p.arguments k a }) (k + 1)
+      pack_other n a e = record {
+        codes = codes_on;
+        arguments = fill_on 0 _ LONGEST k p.arguments g.arguments low a (e ∙ rw (← same, ne_eqb _ 2 n) refl);
+        pushed = fill_past 0 _ LONGEST k p.pushed g.pushed low (rw (← same, ne_eqb _ 2 n) refl);
+        size = g.size;
+        few = g.few;
+      }
 
     pub pack_end : job.size ≤ k → p ≡ packed (code_of job)
     unfolding packed
@@ -183,48 +173,40 @@ module _ (n : ℕ) (js : List Job) where
   pub first_job : (k : ℕ) → k < n → get_or (first_jobs n js) k [] ≡ code_of (get_or js k no_job)
   first_job k l = get_or-map code_of (firsts n no_job js) k no_job ∙ ap code_of (get_d_firsts n no_job js k l)
 
+-- the first jobs of an array, as the part that they are
+module _ (js : List Job) (n m : ℕ) (e : m ≡ n) (few : n ≤ length js) where
+  pub front_jobs : map code_of (take m js) ≡ first_jobs n js
+  front_jobs = rw e (ap (map code_of) (sym (firsts_take n no_job js few)))
+
+  front_long : length (take m js) ≡ n
+  front_long = rw e (length-take-le n js few)
+
+  pub front_pass : length js ≡ JOBS → AllPass js n → (length (take m js) ≤ JOBS) × AllPass (take m js) (length (take m js))
+  front_pass q h =
+      (omega (arith, front_long, few, q), record { pass = λ k l. rw (get_or-take m js k no_job (omega (arith, e, front_long, l))) (h.pass k (omega (arith, front_long, l))) })
+
 packed_none : packed [] ≡ stops_of 0
 unfolding packed
 packed_none = refl
 
 -- the program of the k-th job
-abbrev packed_at : List Job → ℕ → ℕ → Program
-packed_at js n k = packed (get_or (first_jobs n js) k [])
+abbrev packed_at : List Job → ℕ → Program
+packed_at js k = packed (get_or (map code_of js) k [])
 
-pub record PackingAll (js : List Job) (n k : ℕ) (ps : List Program) : Type 0 where
-  pub filling : Filling (stops_of 0) (packed_at js n) JOBS k ps
-  pub low : k ≤ n
+pub record PackingAll (js : List Job) (k : ℕ) (ps : List Program) : Type 0 where
+  pub filling : Filling (stops_of 0) (packed_at js) JOBS k ps
 
-module _ (js : List Job) (n : ℕ) where
-  pub packs_start : (p : Program) → p ≡ stops_of 0 → PackingAll js n 0 (replicate JOBS p)
-  packs_start p e = rw e (record { filling = fill_start (stops_of 0) (packed_at js n) JOBS; low = omega arith })
+module _ (js : List Job) where
+  module _ (k : ℕ) (ps : List Program) (g : PackingAll js k ps) where
+    pub packs_on : k < JOBS → (p : Program) → p ≡ packed (code_of (get_or js k no_job)) → PackingAll js (k + 1) (set ps k p)
+    packs_on l p e = record { filling = fill_on (stops_of 0) (packed_at js) JOBS k ps g.filling l p (e ∙ ap packed (sym (get_or-map code_of js k no_job))) }
 
-  module _ (few : n ≤ JOBS) (k : ℕ) (ps : List Program) (g : PackingAll js n k ps) where
-    pub packs_on : k < n → (p : Program) → p ≡ packed (code_of (get_or js k no_job)) → PackingAll js n (k + 1) (set ps k p)
-    packs_on l p e = record { filling = fill_on (stops_of 0) (packed_at js n) JOBS k ps g.filling (omega arith) p (e ∙ ap packed (sym (first_job n js k l))); low = omega (arith, l) }
-
-    pub packs_end : n ≤ k → ps ≡ all_packed (first_jobs n js)
+    pub packs_end : length js ≤ k → ps ≡ all_packed (map code_of js)
     unfolding all_packed
-    packs_end l = fill_end (stops_of 0) (packed_at js n) JOBS k ps g.filling
-        (λ i m o. ap packed (get_or-eq_default (first_jobs n js) [] (omega (arith, l, m, first_long n js))) ∙ packed_none)
+    packs_end l = fill_end (stops_of 0) (packed_at js) JOBS k ps g.filling
+        (λ i m o. ap packed (get_or-eq_default (map code_of js) [] (omega (arith, l, m, length-map js code_of))) ∙ packed_none)
 
 -- ---- the instruction at which a program stands
--- an operand stands where its code says
-module _ (p : Program) (k : ℕ) where
-  abbrev with_operand : ℕ → Instruction
-  with_operand x = record { code = get_or p.codes k 0; operand = x }
-
-  abbrev by_test : Bool → Instruction
-  by_test t = with_operand (cond t (get_or p.pushed k 0) (get_or p.arguments k 0))
-
-  pub operand_pushed : get_or p.codes k 0 ≡ 2 → with_operand (get_or p.pushed k 0) ≡ instruction_in p k
-  operand_pushed e = ap by_test (sym (eq-eqb (get_or p.codes k 0) 2 e))
-
-  pub operand_argument : (get_or p.codes k 0 ≡ 2 → ⊥) → with_operand (get_or p.arguments k 0) ≡ instruction_in p k
-  operand_argument e = ap by_test (sym (ne_eqb (get_or p.codes k 0) 2 e))
-
-pub ruleset operand_laws = (operand_pushed, operand_argument)
-
 pub steps_program : (p : Program) (s : State) (r : Stepped) (i : Instruction) → s.place.0 < p.size → i ≡ instruction_in p s.place.0
     → Steps ROOM p.size i (state_of s) r.act (state_of r.state) → StepsIn (program_of p) s r
 steps_program p s r i l e h = record { steps = rw (length_program p, program_at p s.place.0 l, ← e) h }

@@ -19,7 +19,7 @@ use Rattle.machine.specs.View.{state_of}
 use Rattle.machine.specs.declared.counts.Cell.{Cell}
 use Rattle.machine.specs.declared.job.State.{State}
 use Rattle.rules.specs.Box.{box, limits}
-use Rattle.rules.specs.View.{entry_of, journal_of, length_journal, value_of, version_of, version_at, found_in, no_journal, no_read, no_reads, ShowingBelow}
+use Rattle.rules.specs.View.{entry_of, journal_of, length_journal, version_of, version_at, found_in, no_journal, no_read, no_reads, ShowingBelow}
 use Rattle.rules.specs.Block.{code_at, no_checkpoint, running_of, read_of, reads_of, job_of, block_of}
 use Rattle.rules.specs.Becomes.{Becomes}
 use Rattle.rules.specs.Moves.{listing_of, Sized}
@@ -28,8 +28,6 @@ use Rattle.rules.specs.declared.block.Entry.{Entry}
 use Rattle.rules.specs.declared.block.Read.{Read}
 use Rattle.rules.specs.declared.block.Reads.{Reads}
 use Rattle.rules.specs.declared.block.Block.{Block}
-use Rattle.rules.specs.declared.versions.Shown.{Shown}
-use Rattle.rules.specs.declared.versions.Shown.TheVariants.{Value, Nothing}
 use Rattle.rules.specs.declared.versions.Version.{Version}
 use Rattle.words.specs.declared.word.Word.TheVariants.{Step, Stuck}
 use Rattle.rules.specs.declared.block.Turned.{Turned}
@@ -140,16 +138,16 @@ module _ (b : Block) (i c : ℕ) where
   own_none None (Some x) f e = absurd (let z : ◌≡◌ {A = ℕ} 0 1 = cc in omega arith)
   own_none None None f e = refl
 
-  pub read_held : (x : Shown) (v : ℕ) (next s : State) (r : Block) → i < b.count → value_of x ≡ holds → x ≡ Value v → Reading b i next c → state_of s ≡ given ROOM v (state_of next)
+  pub read_held : (x : Option ℕ) (v : ℕ) (next s : State) (r : Block) → i < b.count → x ≡ holds → x ≡ Some v → Reading b i next c → state_of s ≡ given ROOM v (state_of next)
       → Becomes b r i (step_to (job_of b i) (running_of (code_at b i) s)) → Did b i (reading b i c) (record { word = Step; block = r })
-  unfolding reading value_of
+  unfolding reading
   read_held x v next s r inside ex q h es k =
-      rw (own_step (last_value (job_of b i).journal c) (listed_value (job_of b i).reads c) v (E.find (cells b) (jobs b) c i) (sym (ap value_of q) ∙ ex ∙ sym own_is))
+      rw (own_step (last_value (job_of b i).journal c) (listed_value (job_of b i).reads c) v (E.find (cells b) (jobs b) c i) (sym q ∙ ex ∙ sym own_is))
       (step_did b i inside r (step_to (job_of b i) (box.given (job_of b i).state v)) (subst (λ (g : Running). Becomes b r i (step_to (job_of b i) g)) (given_at b i next s c v h es) k))
 
-  pub read_else : (x : Shown) (r : Turned) → value_of x ≡ holds → x ≡ Nothing → Did b i (outside b i c) r → Did b i (reading b i c) r
-  unfolding reading outside value_of
-  read_else x r ex q d = rw (own_none (last_value (job_of b i).journal c) (listed_value (job_of b i).reads c) (E.find (cells b) (jobs b) c i) (sym (ap value_of q) ∙ ex ∙ sym own_is)) d
+  pub read_else : (x : Option ℕ) (r : Turned) → x ≡ holds → x ≡ None → Did b i (outside b i c) r → Did b i (reading b i c) r
+  unfolding reading outside
+  read_else x r ex q d = rw (own_none (last_value (job_of b i).journal c) (listed_value (job_of b i).reads c) (E.find (cells b) (jobs b) c i) (sym q ∙ ex ∙ sym own_is)) d
 
 pub few_entries : (b : Block) (t : ℕ) → Sized b → 0 < t → t ≤ b.count → (get_or b.journals (t - 1) no_journal).size ≤ 8
 few_entries b t z p l = (z.showing.showing (t - 1) (omega arith)).entries

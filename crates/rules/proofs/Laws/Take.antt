@@ -5,8 +5,11 @@ use mathlib.Core.Logic.{inl, inr}
 use mathlib.Core.List.{List, [], ◌∷◌, ◌++◌}
 use Prim.Native.Nat.{ℕ, ◌+◌, ◌-◌, ◌*◌, ◌≤◌, ◌<◌}
 use native.Mathlib.Omega.{arith}
-use lib.ListN.{get_or}
+use lib.Dec.{leb}
+use lib.ListN.{get_or, take}
+use Rattle.std.specs.List.{list_all}
 use borrow.Author.Tests.{lt-leb}
+use Rattle.std.specs.Prelude.{Option, None, Some}
 use Rattle.theory.specs.Engine as E
 use Rattle.theory.specs.Engine.{or_else, last_value, published, withdrawn}
 use Rattle.machine.specs.Limits.{ROOM}
@@ -20,26 +23,23 @@ use Rattle.machine.specs.declared.step.Act.TheVariants.{Nothing as NoAct, Read a
 use Rattle.machine.specs.declared.step.Stepped.{Stepped}
 use Rattle.rules.specs.Box.{box_promise}
 use Rattle.rules.specs.Steps.{StepsIn}
-use Rattle.rules.specs.View.{entry_of, journal_of, versions_of, value_of, version_of, found_in, no_journal, no_versions, no_reads, Showing}
+use Rattle.rules.specs.View.{entry_of, journal_of, versions_of, version_of, found_in, no_journal, no_versions, no_reads, Showing}
 use Rattle.rules.specs.Block.{no_checkpoint, running_of}
 use Rattle.rules.specs.Moves.{Adds, Held}
 use Rattle.rules.specs.Turn.{Did, listed_in, final_below, outside, reading, writing, stepping, moving}
-use Rattle.rules.specs.Own.{still, publishing, stepped, wrote, listed, ended, settled_own, went_back, Wrote, Lists, Goes, own_of, turned_by, At, Done, Moves, AtWrite, AtRead, InCells, Asks, AtStep, AtTurn, Ready}
+use Rattle.rules.specs.Own.{still, stepped, wrote, listed, ended, settled_own, went_back, Wrote, Lists, Goes, own_of, turned_by, At, Done, Moves, AtWrite, AtRead, InCells, AtStep, AtTurn}
 use Rattle.rules.specs.declared.block.Entry.{Entry}
-use Rattle.rules.specs.declared.block.Journal.{Journal}
 use Rattle.rules.specs.declared.block.Versions.{Versions}
 use Rattle.rules.specs.declared.block.Checkpoint.{Checkpoint}
-use Rattle.rules.specs.declared.block.Reads.{Reads}
 use Rattle.rules.specs.declared.block.Block.{Block}
 use Rattle.rules.specs.declared.versions.Version.{Version}
-use Rattle.rules.specs.declared.versions.Shown.{Shown}
-use Rattle.rules.specs.declared.versions.Shown.TheVariants.{Value, Nothing}
 use Rattle.words.specs.declared.word.Word.{Word}
-use Rattle.words.specs.declared.word.Word.TheVariants.{Idle, Back, Wait, Stuck}
+use Rattle.words.specs.declared.word.Word.TheVariants.{Idle, Wait, Stuck}
 use Rattle.rules.specs.declared.own.Own.{Own}
 use Rattle.rules.specs.declared.own.Around.{Around}
 use Rattle.rules.specs.declared.own.Move.{Move}
 use Rattle.rules.proofs.Laws.Moves.{back_shown}
+use Rattle.rules.proofs.Laws.Own.{final_is}
 use Rattle.rules.proofs.Laws.Words.{not_both}
 use Rattle.rules.proofs.Laws.Words.{inside_of}
 use Rattle.rules.proofs.Laws.Reading.{outside_full, outside_some, read_else, read_held, write_full, write_some}
@@ -111,31 +111,26 @@ module _ (o : Own) (around : Around) (start t : ℕ) (next : State) (c : Cell) w
 pub ruleset own_outside_laws = (own_outside_full, own_outside)
 
 -- ---- back, on the parts
-pub goes_is : (o : Own) (c : Checkpoint) (kept : Journal) (cut : Reads) (v : Versions) → kept ≡ record { entries = o.journal.entries; size = c.writes }
-    → cut ≡ record { reads = o.list.reads; size = c.listed; mark = 255 } → versions_of v ≡ withdrawn c.writes (versions_of o.versions)
-    → (m : Move) → m ≡ publishing Back (record { state = c.state; status = 0; journal = kept; versions = v; list = cut; slot = o.slot }) → Goes o c m
-goes_is o c kept cut v ek er q m e = record { versions = rw e q; move = rw (e, ek, er) refl }
-
 -- ---- READ
-module _ (o : Own) (around : Around) (first t : ℕ) (next : State) (c : Cell) (x : Shown)
-    (ex : value_of x ≡ or_else (last_value (journal_of o.journal) c.0) (listed_in o.list c.0)) where
-  pub own_held : (v : ℕ) (s : State) (m : Move) → x ≡ Value v → state_of s ≡ given ROOM v (state_of next) → m ≡ stepped o s → Moves o (AtRead around first t next c.0) (λ b i. reading b i c.0) m
+module _ (o : Own) (around : Around) (first t : ℕ) (next : State) (c : Cell) (x : Option ℕ)
+    (ex : x ≡ or_else (last_value (journal_of o.journal) c.0) (listed_in o.list c.0)) where
+  pub own_held : (v : ℕ) (s : State) (m : Move) → x ≡ Some v → state_of s ≡ given ROOM v (state_of next) → m ≡ stepped o s → Moves o (AtRead around first t next c.0) (λ b i. reading b i c.0) m
   own_held v s m e es w = moves_as w (record {
     status = inr refl;
     on = λ b k at q. subst
-        (λ (y : Own). value_of x ≡ or_else (last_value (journal_of y.journal) c.0) (listed_in y.list c.0) → Done b k (reading b (k - 1) c.0) (stepped y s)) (sym at.own)
+        (λ (y : Own). x ≡ or_else (last_value (journal_of y.journal) c.0) (listed_in y.list c.0) → Done b k (reading b (k - 1) c.0) (stepped y s)) (sym at.own)
         (λ h. quiet_done b k _ _ _
         (read_held b (k - 1) c.0 x v next s _ (inside_of b.count k at.some at.inside) h e q.reading es (P.becomes_step b k at.some at.inside at.whole.sized at.long s)))
         ex;
   })
 
-  pub own_else : (m : Move) → x ≡ Nothing → Moves o (AtRead around first t next c.0) (λ b i. outside b i c.0) m
+  pub own_else : (m : Move) → x ≡ None → Moves o (AtRead around first t next c.0) (λ b i. outside b i c.0) m
       → Moves o (AtRead around first t next c.0) (λ b i. reading b i c.0) m
   own_else m e h = record {
     status = h.status;
     on = λ b k at q.
         let d = h.on b k at q in
-        let held : value_of x ≡ or_else (last_value (journal_of (get_or b.journals (k - 1) no_journal)) c.0) (listed_in (get_or b.reads (k - 1) no_reads) c.0) = rw at.own at ex in
+        let held : x ≡ or_else (last_value (journal_of (get_or b.journals (k - 1) no_journal)) c.0) (listed_in (get_or b.reads (k - 1) no_reads) c.0) = rw at.own at ex in
         record { did = read_else b (k - 1) c.0 x _ held e d.did; shown = d.shown; few = d.few };
   }
 
@@ -197,13 +192,7 @@ module _ (o : Own) (around : Around) (first t : ℕ) (done : Stepped) where
         (step_abandon b (k - 1) done q.steps new _ e (inside_of b.count k at.some at.inside) v (P.becomes_end b k at.some at.inside at.whole.sized at.long new));
   })
 
-pub own_entries : (o : Own) (around : Around) (t : ℕ) → Ready o around t → o.journal.size ≤ 8
-own_entries o around t r = r.showing.entries
-
-pub own_versions : (o : Own) (around : Around) (t : ℕ) → Ready o around t → o.versions.size ≤ 8
-own_versions o around t r = r.showing.numbers
-
-pub ruleset own_step_laws = (own_nothing, own_reads, own_writes, own_stuck, own_stop, own_abandon, own_entries)
+pub ruleset own_step_laws = (own_nothing, own_reads, own_writes, own_stuck, own_stop, own_abandon)
 
 -- ---- the cell that an instruction reads
 -- an instruction of the machine reads cells of the table alone
@@ -211,30 +200,6 @@ pub steps_cells : (is : List Instruction) (s : State) (done : Stepped) → Steps
 steps_cells is s done h = record {
   low = λ c e. box_promise.cell_read (running_of is s) c.0 (sym (ap (in_job is) h.steps.asks) ∙ ap (λ (y : CodeAct). in_job is (act_of y (state_of done.state))) e);
 }
-
-module _ (done : Stepped) where
-  asks_none : (a : CodeAct) → done.act ≡ a → ((c : Cell) → a ≡ ReadAct c → ⊥) → Asks done 0
-  asks_none a e n = record { low = omega arith; cell = λ c q. absurd (n c (sym e ∙ q)) }
-
-  pub asks_nothing : done.act ≡ NoAct → Asks done 0
-  asks_nothing e = asks_none NoAct e (λ c q. let z : ◌≡◌ {A = ℕ} 0 1 = cc in omega arith)
-
-  pub asks_stop : done.act ≡ StopAct → Asks done 0
-  asks_stop e = asks_none StopAct e (λ c q. let z : ◌≡◌ {A = ℕ} 0 1 = cc in omega arith)
-
-  pub asks_abandon : done.act ≡ AbandonAct → Asks done 0
-  asks_abandon e = asks_none AbandonAct e (λ c q. let z : ◌≡◌ {A = ℕ} 0 1 = cc in omega arith)
-
-  pub asks_stuck : done.act ≡ StuckAct → Asks done 0
-  asks_stuck e = asks_none StuckAct e (λ c q. let z : ◌≡◌ {A = ℕ} 0 1 = cc in omega arith)
-
-  pub asks_write : (d : Cell) (v : ℕ) → done.act ≡ WriteAct d v → Asks done 0
-  asks_write d v e = asks_none (WriteAct d v) e (λ c q. let z : ◌≡◌ {A = ℕ} 0 1 = cc in omega arith)
-
-  pub asks_read : (d : Cell) → InCells done → done.act ≡ ReadAct d → Asks done d.0
-  asks_read d h e = record { low = h.low d e; cell = λ c q. let same : ReadAct d ≡ ReadAct c = sym e ∙ q in cc }
-
-pub ruleset asks_laws = (asks_nothing, asks_stop, asks_abandon, asks_stuck, asks_write, asks_read)
 
 -- ---- the rules, in order
 module _ (step : Stepped) (o : Own) (around : Around) (first : ℕ) (c : Checkpoint) (t : ℕ) where
@@ -253,9 +218,10 @@ module _ (step : Stepped) (o : Own) (around : Around) (first : ℕ) (c : Checkpo
         record { did = move_step b (k - 1) _ (rw at.own at em) (rw at.own at es) d.did; shown = d.shown; few = d.few };
   }
 
-  module _ (low : o.status < 2) (some : o.status ≡ 0 → ⊥) (em : o.list.mark ≡ 255) (x : Bool) (ex : x ≡ final_below around.status (t - 1)) where
-    seen : (b : Block) (k : ℕ) → AtStep step around first t b k → x ≡ final_below b.status (k - 1)
-    seen b k q = rw (q.around, ← q.ticket) at ex
+  module _ (low : o.status < 2) (some : o.status ≡ 0 → ⊥) (em : o.list.mark ≡ 255) (x : Bool) (ex : x ≡ list_all (λ (s : ℕ). leb 2 s) (take (t - 1) around.status)) where
+    seen : (b : Block) (k : ℕ) → At b k o → AtStep step around first t b k → x ≡ final_below b.status (k - 1)
+    seen b k at q = let e : x ≡ list_all (λ (s : ℕ). leb 2 s) (take (k - 1) b.status) = rw (q.around, ← q.ticket) at ex in
+        e ∙ final_is b.status (k - 1) (omega (arith, at.long.status, at.inside, at.whole.sized.count))
 
     pub own_final : (r : Move) → x ≡ true → r ≡ settled_own o → Moves o (AtTurn step around first c t) moving r
     own_final r e w = moves_as w (record {
@@ -263,7 +229,7 @@ module _ (step : Stepped) (o : Own) (around : Around) (first : ℕ) (c : Checkpo
       on = λ b k at q.
           let inside = inside_of b.count k at.some at.inside in
           subst (λ (y : Own). y.status < 2 → (y.status ≡ 0 → ⊥) → y.list.mark ≡ 255 → Done b k (moving b (k - 1)) (settled_own y)) (sym at.own)
-          (λ l n m. quiet_done b k _ _ _ (move_final b (k - 1) _ inside l n m x (seen b k q.step) e (P.becomes_final b k at.some at.inside at.whole.sized at.long))) low some em;
+          (λ l n m. quiet_done b k _ _ _ (move_final b (k - 1) _ inside l n m x (seen b k at q.step) e (P.becomes_final b k at.some at.inside at.whole.sized at.long))) low some em;
     })
 
     pub own_wait : (r : Move) → x ≡ false → r ≡ still Wait o → Moves o (AtTurn step around first c t) moving r
@@ -272,7 +238,7 @@ module _ (step : Stepped) (o : Own) (around : Around) (first : ℕ) (c : Checkpo
       on = λ b k at q.
           let inside = inside_of b.count k at.some at.inside in
           subst (λ (y : Own). y.status < 2 → (y.status ≡ 0 → ⊥) → y.list.mark ≡ 255 → Done b k (moving b (k - 1)) (still Wait y)) (sym at.own)
-          (λ l n m. still_done b k _ Wait (move_wait b (k - 1) inside l n m x (seen b k q.step) e)) low some em;
+          (λ l n m. still_done b k _ Wait (move_wait b (k - 1) inside l n m x (seen b k at q.step) e)) low some em;
     })
 
   pub own_back : (m : Move) → o.status < 2 → (o.list.mark ≡ 255 → ⊥) → Goes o c m → Moves o (AtTurn step around first c t) moving m
@@ -306,4 +272,4 @@ module _ (step : Stepped) (o : Own) (around : Around) (first : ℕ) (c : Checkpo
                 few = λ e. omega (arith, held.listed, at.whole.sized.lists.few (k - 1) inside);
               }
 
-pub ruleset own_turn_laws = (own_idle, own_on, own_final, own_wait, own_back, own_versions)
+pub ruleset own_turn_laws = (own_idle, own_on, own_final, own_wait, own_back)

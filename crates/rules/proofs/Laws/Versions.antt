@@ -9,20 +9,16 @@ use native.Mathlib.Numerals.{add-one}
 use lib.Dec.{eqb, ltb}
 use lib.ListN.{length, get_or, set, drop, length-append, drop_of_length-le}
 use lib.Seq.{get_or-set_same, get_or-set_other, drop-cons}
-use borrow.Author.Tests.{eq-eqb, ne_eqb, lt-ltb, le-ltb}
+use borrow.Author.Tests.{lt-ltb, le-ltb}
 use Rattle.theory.specs.Lists.{length_tab, get_d_tab, tab_same, drop_tab}
 use Rattle.theory.specs.Engine as E
 use Rattle.theory.specs.Engine.{shown_at, writes?, lasts_from, published, withdrawn}
-use Rattle.rules.specs.View.{entry_of, journal_of, length_journal, number_at, number_low, versions_of, found_of, no_journal, no_versions, Showing, ShowingBelow, last_one, kept_one, value_of, version_of, version_at, found_in}
+use Rattle.rules.specs.View.{entry_of, journal_of, length_journal, number_at, number_low, versions_of, no_journal, no_versions, Showing, last_one, kept_one, version_of, version_at, found_in}
 use Rattle.rules.specs.declared.block.Entry.{Entry}
 use Rattle.rules.specs.declared.block.Journal.{Journal}
 use Rattle.rules.specs.declared.block.Versions.{Versions}
 use Rattle.machine.specs.declared.counts.Ticket.{Ticket}
-use Rattle.rules.specs.declared.journal.Found.{Found}
-use Rattle.rules.specs.declared.journal.Found.TheVariants.{At, Nowhere}
 use Rattle.rules.specs.declared.versions.Version.{Version}
-use Rattle.rules.specs.declared.versions.Shown.{Shown}
-use Rattle.rules.specs.declared.versions.Shown.TheVariants.{Value, Nothing}
 
 pub length_versions : (v : Versions) → length (versions_of v) ≡ v.size
 unfolding versions_of
@@ -41,9 +37,6 @@ version_added v p l w =
 pub ruleset add_laws = (version_none, version_added)
 
 -- ---- from where a cell is shown
-pub shown_named : (j : Journal) (v : Versions) (k : ℕ) → Showing j v → k < v.size → get_or v.numbers k 0 < j.size
-shown_named j v k s l = s.named k l
-
 pub cut : (v : Versions) (k : ℕ) → v.size ≤ 8 → k < v.size → drop k (versions_of v) ≡ get_or v.numbers k 0 ∷ drop (suc k) (versions_of v)
 unfolding versions_of
 cut v k few l = rw (number_low v k (omega arith)) (drop_tab v.size (number_at v) k l)
@@ -53,39 +46,19 @@ module _ (j : Journal) (v : Versions) (c k : ℕ) (R : Option ℕ) where
     is_cell : (get_or (journal_of j) (get_or v.numbers k 0) E.no_entry).cell ≡ e.cell.0
     is_cell = ap (λ (x : E.Entry). x.cell) (sym ee)
 
-    pub shown_here : e.cell.0 ≡ c → shown_at (journal_of j) (drop k (versions_of v)) c ≡ R → found_of (At (get_or v.numbers k 0)) ≡ R
-    unfolding found_of
-    shown_here q r = sym (ap (λ (vs : List ℕ). shown_at (journal_of j) vs c) (cut v k s.numbers l) ∙ rw (is_cell, eq-eqb e.cell.0 c q) refl) ∙ r
+    module _ (x : Bool) (t : x ≡ eqb e.cell.0 c) where
+      pub shown_here : x ≡ true → shown_at (journal_of j) (drop k (versions_of v)) c ≡ R → Some (get_or v.numbers k 0) ≡ R
+      shown_here q r = sym (ap (λ (vs : List ℕ). shown_at (journal_of j) vs c) (cut v k s.numbers l) ∙ rw (is_cell, sym t ∙ q) refl) ∙ r
 
-    pub shown_on : (e.cell.0 ≡ c → ⊥) → shown_at (journal_of j) (drop k (versions_of v)) c ≡ R → shown_at (journal_of j) (drop (k + 1) (versions_of v)) c ≡ R
-    shown_on q r = rw (add-one k) (sym (ap (λ (vs : List ℕ). shown_at (journal_of j) vs c) (cut v k s.numbers l) ∙ rw (is_cell, ne_eqb e.cell.0 c q) refl) ∙ r)
+      pub shown_on : x ≡ false → shown_at (journal_of j) (drop k (versions_of v)) c ≡ R → shown_at (journal_of j) (drop (k + 1) (versions_of v)) c ≡ R
+      shown_on q r = rw (add-one k) (sym (ap (λ (vs : List ℕ). shown_at (journal_of j) vs c) (cut v k s.numbers l) ∙ rw (is_cell, sym t ∙ q) refl) ∙ r)
 
-  pub shown_end : v.size ≤ k → shown_at (journal_of j) (drop k (versions_of v)) c ≡ R → found_of Nowhere ≡ R
-  unfolding found_of
+  pub shown_end : v.size ≤ k → shown_at (journal_of j) (drop k (versions_of v)) c ≡ R → None ≡ R
   shown_end l r = sym (ap (λ (vs : List ℕ). shown_at (journal_of j) vs c) (drop_of_length-le (versions_of v) {i = k} (rw (length_versions v) l))) ∙ r
 
-pub ruleset shown_laws = (shown_named, shown_here, shown_on, shown_end)
+pub ruleset shown_laws = (shown_here, shown_on, shown_end)
 
 -- ---- which entries are the last of their cell
-pub later_start : (j : Journal) (c k : ℕ) → writes? (drop (k + 1) (journal_of j)) c ≡ writes? (drop (suc k) (journal_of j)) c
-later_start j c k = rw (add-one k) refl
-
-module _ (j : Journal) (c i : ℕ) (R : Bool) where
-  module _ (l : i < j.size) (e : Entry) (ee : entry_of e ≡ get_or (journal_of j) i E.no_entry) where
-    cut_entry : drop i (journal_of j) ≡ entry_of e ∷ drop (suc i) (journal_of j)
-    cut_entry = drop-cons (journal_of j) i E.no_entry (rw (length_journal j) l) ∙ rw ee refl
-
-    pub later_here : e.cell.0 ≡ c → writes? (drop i (journal_of j)) c ≡ R → true ≡ R
-    later_here q r = sym (ap (λ (es : List E.Entry). writes? es c) cut_entry ∙ rw (eq-eqb e.cell.0 c q) refl) ∙ r
-
-    pub later_on : (e.cell.0 ≡ c → ⊥) → writes? (drop i (journal_of j)) c ≡ R → writes? (drop (i + 1) (journal_of j)) c ≡ R
-    later_on q r = rw (add-one i) (sym (ap (λ (es : List E.Entry). writes? es c) cut_entry ∙ rw (ne_eqb e.cell.0 c q) refl) ∙ r)
-
-  pub later_end : j.size ≤ i → writes? (drop i (journal_of j)) c ≡ R → false ≡ R
-  later_end l r = sym (ap (λ (es : List E.Entry). writes? es c) (drop_of_length-le (journal_of j) {i = i} (rw (length_journal j) l))) ∙ r
-
-pub ruleset later_laws = (later_start, later_here, later_on, later_end)
-
 module _ (j : Journal) (v : Versions) (k : ℕ) (e : Entry) (ee : entry_of e ≡ get_or (journal_of j) k E.no_entry) where
   last_cell : (get_or (journal_of j) k E.no_entry).cell ≡ e.cell.0
   last_cell = ap (λ (x : E.Entry). x.cell) (sym ee)
@@ -127,13 +100,7 @@ module _ (j : Journal) (k : ℕ) (R : List ℕ) where
       go true q = omega (arith, ap length q, length-append (versions_of v) [], length_versions v, length_versions r)
       go false q = omega (arith, ap length q, length-append (versions_of v) (k ∷ []), length_versions v, length_versions r)
 
-pub publish_start : (j : Journal) (v : Versions) → versions_of v ≡ [] → versions_of v ++ lasts_from 0 (drop 0 (journal_of j)) ≡ published (journal_of j)
-publish_start j v e = rw e refl
-
-pub start_size : (v : Versions) → versions_of v ≡ [] → v.size ≤ 0
-start_size v e = omega (arith, ap length e, length_versions v)
-
-pub ruleset publish_laws = (publish_start, start_size, publish_on, publish_size, publish_end)
+pub ruleset publish_laws = (publish_on, publish_size, publish_end)
 
 -- ---- withdrawing
 module _ (v : Versions) (n p : ℕ) where
@@ -173,10 +140,7 @@ module _ (v : Versions) (n k : ℕ) (R : List ℕ) where
       go true q = omega (arith, ap length q, length-append (versions_of w) (p ∷ []), length_versions w, length_versions r)
       go false q = omega (arith, ap length q, length-append (versions_of w) [], length_versions w, length_versions r)
 
-pub withdraw_start : (v w : Versions) (n : ℕ) → versions_of w ≡ [] → versions_of w ++ withdrawn n (drop 0 (versions_of v)) ≡ withdrawn n (versions_of v)
-withdraw_start v w n e = rw e refl
-
-pub ruleset withdraw_laws = (withdraw_start, start_size, withdraw_on, withdraw_size, withdraw_end)
+pub ruleset withdraw_laws = (withdraw_on, withdraw_size, withdraw_end)
 
 -- ---- the version that a reader finds
 -- an entry that is shown is one of the versions
@@ -188,50 +152,33 @@ shown_listed es (v ∷ vs) n c p h e = go (eqb (get_or es v E.no_entry).cell c) 
     go true q ih = let w : v ≡ p = cc in rw (← w) (h 0 (omega arith))
     go false q ih = ih q
 
-pub shown_low : (j : Journal) (v : Versions) (c p : ℕ) (r : Found) → Showing j v → found_of r ≡ shown_at (journal_of j) (versions_of v) c → r ≡ At p → p < j.size
-unfolding found_of versions_of
+pub shown_low : (j : Journal) (v : Versions) (c p : ℕ) (r : Option ℕ) → Showing j v → r ≡ shown_at (journal_of j) (versions_of v) c → r ≡ Some p → p < j.size
+unfolding versions_of
 shown_low j v c p r s e q =
     shown_listed (journal_of j) (versions_of v) j.size c p
-    (λ k l. let m = rw (length_versions v) at l in rw (get_d_tab v.size (number_at v) k 0 m, ← number_low v k (omega (arith, s.numbers))) (s.named k m)) (sym e ∙ ap found_of q)
-
-module _ (j : Journal) (v : Versions) (c : ℕ) (r : Found) (er : found_of r ≡ shown_at (journal_of j) (versions_of v) c) where
-  pub value_none : r ≡ Nowhere → value_of Nothing ≡ E.value_at (journal_of j) (shown_at (journal_of j) (versions_of v) c)
-  unfolding found_of value_of
-  value_none q = rw (← er, q) refl
-
-  pub value_some : (p : ℕ) (e : Entry) → r ≡ At p → entry_of e ≡ get_or (journal_of j) p E.no_entry → value_of (Value e.value) ≡ E.value_at (journal_of j) (shown_at (journal_of j) (versions_of v) c)
-  unfolding found_of value_of
-  value_some p e q w = rw (← er, q, ← w) refl
-
-pub ruleset value_laws = (shown_low, value_none, value_some)
+    (λ k l. let m = rw (length_versions v) at l in rw (get_d_tab v.size (number_at v) k 0 m, ← number_low v k (omega (arith, s.numbers))) (s.named k m)) (sym e ∙ q)
 
 module _ (js : List Journal) (vs : List Versions) (start c : ℕ) where
   pub find_start : (t : Ticket) → t.0 ≡ 0 → version_of (record { source = t; value = start }) ≡ found_in js vs start c t.0
   unfolding version_of found_in E.search
   find_start t e = rw e refl
 
-  pub find_own : (t : Ticket) (x : ℕ) (r : Shown) → (t.0 ≡ 0 → ⊥) → value_of r ≡ E.value_at (journal_of (get_or js (t.0 - 1) no_journal)) (shown_at (journal_of (get_or js (t.0 - 1) no_journal)) (versions_of (get_or vs (t.0 - 1) no_versions)) c)
-      → r ≡ Value x → version_of (record { source = t; value = x }) ≡ found_in js vs start c t.0
-  unfolding version_of version_at found_in E.search value_of
-  find_own t x r n e q = go t.0 n (sym e ∙ ap value_of q)
+  pub find_own : (t : Ticket) (x : ℕ) (r : Option ℕ) → (t.0 ≡ 0 → ⊥) → r ≡ E.value_at (journal_of (get_or js (t.0 - 1) no_journal)) (shown_at (journal_of (get_or js (t.0 - 1) no_journal)) (versions_of (get_or vs (t.0 - 1) no_versions)) c)
+      → r ≡ Some x → version_of (record { source = t; value = x }) ≡ found_in js vs start c t.0
+  unfolding version_of version_at found_in E.search
+  find_own t x r n e q = go t.0 n (sym e ∙ q)
     where
       go : (m : ℕ) → (m ≡ 0 → ⊥) → version_at js vs (m - 1) c ≡ Some x → (m, x) ≡ E.search start (λ k. version_at js vs k c) m
       go zero n e = absurd (n refl)
       go (suc m) n e = let s : suc m - 1 ≡ m = omega arith in rw (rw s at e) refl
 
-  pub find_lower : (t : ℕ) (r : Shown) (w : Version) → (t ≡ 0 → ⊥) → value_of r ≡ E.value_at (journal_of (get_or js (t - 1) no_journal)) (shown_at (journal_of (get_or js (t - 1) no_journal)) (versions_of (get_or vs (t - 1) no_versions)) c)
-      → r ≡ Nothing → version_of w ≡ found_in js vs start c (t - 1) → version_of w ≡ found_in js vs start c t
-  unfolding version_at found_in E.search value_of
+  pub find_lower : (t : ℕ) (r : Option ℕ) (w : Version) → (t ≡ 0 → ⊥) → r ≡ E.value_at (journal_of (get_or js (t - 1) no_journal)) (shown_at (journal_of (get_or js (t - 1) no_journal)) (versions_of (get_or vs (t - 1) no_versions)) c)
+      → r ≡ None → version_of w ≡ found_in js vs start c (t - 1) → version_of w ≡ found_in js vs start c t
+  unfolding version_at found_in E.search
   find_lower zero r w n e q h = absurd (n refl)
   find_lower (suc t) r w n e q h =
       let s : suc t - 1 ≡ t = omega arith in
-      let z : version_at js vs t c ≡ None = rw s at (sym e ∙ ap value_of q) in
+      let z : version_at js vs t c ≡ None = rw s at (sym e ∙ q) in
       rw z (rw s at h)
 
-pub find_showing : (js : List Journal) (vs : List Versions) (n : ℕ) → ShowingBelow js vs n → (n ≡ 0 → ⊥) → Showing (get_or js (n - 1) no_journal) (get_or vs (n - 1) no_versions)
-find_showing js vs n s z = s.showing (n - 1) (omega arith)
-
-pub find_showing_below : (js : List Journal) (vs : List Versions) (n : ℕ) → ShowingBelow js vs n → ShowingBelow js vs (n - 1)
-find_showing_below js vs n s = record { showing = λ k l. s.showing k (omega arith) }
-
-pub ruleset find_laws = (find_start, find_own, find_lower, find_showing, find_showing_below)
+pub ruleset find_laws = (find_start, find_own, find_lower)

@@ -3,21 +3,20 @@
 use mathlib.Core.Path.{◌≡◌, refl, ap, sym, ◌∙◌}
 use mathlib.Core.Bool.{Bool, true, false, cond, ◌&&◌}
 use mathlib.Core.List.{List, [], ◌∷◌}
-use Prim.Native.Nat.{ℕ, zero, suc, ◌+◌, ◌-◌, ◌^◌, ◌≤◌, ◌<◌}
+use Rattle.std.specs.Prelude.{Option}
+use Prim.Native.Nat.{ℕ, zero, suc, ◌+◌, ◌-◌, ◌≤◌, ◌<◌}
 use native.Mathlib.Omega.{arith}
 use native.Mathlib.Numerals.{add-one}
-use native.Mathlib.Nat.{add-zero}
 use lib.Dec.{eqb, leb}
-use lib.ListN.{length, get_or, take, drop, set, replicate, length-drop, drop_of_length-le}
-use lib.Seq.{get_or-drop, drop-drop, length-take-le}
-use mir.Val.{Fits}
-use mir.Syntax.{w64}
+use lib.ListN.{length, get_or, take, drop, set, replicate, length-drop}
+use lib.Seq.{length-take-le}
 use borrow.Author.Tests.{lt-ltb, le-ltb, le-leb, lt-leb, eq-eqb, ne_eqb, leb-true, eqb-true}
+use Rattle.std.specs.Cmp.{both_ways}
+use Rattle.std.proofs.lemmas.List.{take_rest}
 use Rattle.theory.proofs.ReadSizes.{both}
 use Rattle.machine.specs.Paper.{little, tag, size, later}
 use Rattle.sessions.specs.Limits.{BYTES, TURNS}
-use Rattle.sessions.specs.Fields.{Session, session, malformed, is_field, is_turns, paper_size, paper_length, after_cells, cell_in, value_in, is_next_cell, cell_fields, from_cell, zeros, session_of, Starts, Divides}
-use Rattle.sessions.specs.declared.fields.Start.{Start}
+use Rattle.sessions.specs.Fields.{Session, session, malformed, is_field, is_turns, paper_size, paper_length, after_cells, cell_in, value_in, is_next_cell, cell_fields, from_cell, zeros, session_of, Divides}
 use Rattle.sessions.specs.declared.fields.Parts.{Parts}
 
 -- ---- a field at the front
@@ -127,243 +126,157 @@ turns_whole bs e =
     let inner = both (is_field 2 bs) (leb (size bs) TURNS) outer.0 in
     (omega (arith, whole 2 bs inner.0), omega (arith, leb-true (size bs) TURNS inner.1, eqb-true (length bs) (3 + size bs) outer.1))
 
-after_turns : (table bs : List ℕ) → is_turns (drop (paper_length bs) bs) ≡ true
-    → after_cells table bs ≡ session table (take (paper_length bs) bs) (drop 3 (drop (paper_length bs) bs))
-unfolding after_cells
-after_turns table bs e = rw e refl
-
--- ---- the parts of a field, from its place on
-module _ (bs : List ℕ) (at : ℕ) where
-  left : length (drop at bs) ≡ length bs - at
-  left = length-drop at bs
-
-  eight : at + 12 - (at + 4) ≡ 8
-  eight = omega arith
-
-  pub cell_is : (c : ℕ) → c ≡ get_or bs (at + 3) 0 → c ≡ cell_in (drop at bs)
-  cell_is c e = e ∙ sym (get_or-drop at bs 3 0)
-
-  pub value_is : (r : ℕ) → at + 12 ≤ length bs
-      → r ≡ cond (leb (length (take (at + 12 - (at + 4)) (drop (at + 4) bs))) 8) (little (take (at + 12 - (at + 4)) (drop (at + 4) bs))) 0 → r ≡ value_in (drop at bs)
+-- ---- the parts of a field
+module _ (bs : List ℕ) where
+  pub value_is : (r : ℕ) → 12 ≤ length bs → r ≡ cond (leb (length (take 8 (drop 4 bs))) 8) (little (take 8 (drop 4 bs))) 0 → r ≡ value_in bs
   unfolding value_in
-  value_is r l e =
-      (rw eight at e) ∙ rw (length-take-le 8 (drop (at + 4) bs) (rw length-drop (omega arith)), drop-drop 4 at bs) refl
+  value_is r l e = e ∙ rw (length-take-le 8 (drop 4 bs) (rw length-drop (omega arith))) refl
 
-  module _ (t : ℕ) where
-    first : eqb (get_or (drop at bs) 0 0) t ≡ eqb (get_or bs at 0) t
-    first = simp (get_or-drop, add-zero)
-
-    pub field_head : length bs - at < 3 → false ≡ is_field t (drop at bs)
+  module _ (t : ℕ) (v : Bool) where
+    pub field_head : length bs < 3 → v ≡ false → v ≡ is_field t bs
     unfolding is_field
-    field_head a = rw (left, lt-leb 3 (length bs - at) a) refl
+    field_head a e = rw (lt-leb 3 (length bs) a) e
 
-    module _ (n : ℕ) (en : n ≡ size (drop at bs)) (a : 3 ≤ length bs - at) where
-      pub field_past : length bs - at - 3 < n → false ≡ is_field t (drop at bs)
+    module _ (n : ℕ) (en : n ≡ size bs) (a : 3 ≤ length bs) (ev : v ≡ leb n (length bs - 3)) where
+      same_test : leb (3 + size bs) (length bs) ≡ v
+      same_test =
+          both_ways (leb (3 + size bs) (length bs)) (leb n (length bs - 3)) (λ e. le-leb n (length bs - 3) (omega (arith, leb-true (3 + size bs) (length bs) e)))
+          (λ e. le-leb (3 + size bs) (length bs) (omega (arith, leb-true n (length bs - 3) e))) ∙ sym ev
+
+      pub field_past : v ≡ false → v ≡ is_field t bs
       unfolding is_field
-      field_past b = rw (left, le-leb 3 (length bs - at) a, ← en, lt-leb (3 + n) (length bs - at) (omega arith)) refl
+      field_past e = rw (le-leb 3 (length bs) a, same_test, e) refl
 
-      module _ (b : n ≤ length bs - at - 3) where
-        tested : eqb (get_or bs at 0) t ≡ is_field t (drop at bs)
-        unfolding is_field
-        tested = rw (left, le-leb 3 (length bs - at) a, ← en, le-leb (3 + n) (length bs - at) (omega arith)) (sym first)
+      pub field_here : v ≡ true → eqb (get_or bs 0 0) t ≡ is_field t bs
+      unfolding is_field
+      field_here e = rw (le-leb 3 (length bs) a, same_test, e) refl
 
-        pub field_other : (get_or bs at 0 ≡ t → ⊥) → false ≡ is_field t (drop at bs)
-        field_other q = sym (ne_eqb (get_or bs at 0) t q) ∙ tested
-
-        pub field_here : get_or bs at 0 ≡ t → true ≡ is_field t (drop at bs)
-        field_here q = sym (eq-eqb (get_or bs at 0) t q) ∙ tested
-
-pub ruleset field_laws = (field_head, field_past, field_other, field_here)
+pub ruleset field_laws = (field_head, field_past, field_here)
 
 -- ---- the cells
-module _ (bs : List ℕ) (at least : ℕ) (e : is_field 1 (drop at bs) ≡ true) where
-  pub cell_head : at + 3 ≤ length bs
-  cell_head = omega (arith, whole 1 (drop at bs) e, length-drop at bs)
+module _ (bs : List ℕ) (least : ℕ) (e : is_field 1 bs ≡ true) where
+  pub cell_head : 3 ≤ length bs
+  cell_head = omega (arith, whole 1 bs e)
 
-  module _ (n : ℕ) (en : n ≡ size (drop at bs)) where
-    pub next_size : (n ≡ 9 → ⊥) → false ≡ is_next_cell least (drop at bs)
+  module _ (n : ℕ) (en : n ≡ size bs) where
+    pub next_size : (n ≡ 9 → ⊥) → eqb n 9 ≡ is_next_cell least bs
     unfolding is_next_cell
     next_size q = rw (← en, ne_eqb n 9 q) refl
 
-    pub next_inside : n ≡ 9 → at + 3 < length bs
-    next_inside q = omega (arith, whole 1 (drop at bs) e, length-drop at bs)
+    pub next_inside : n ≡ 9 → 3 < length bs
+    next_inside q = omega (arith, whole 1 bs e)
 
-    pub next_cell : (c : ℕ) → n ≡ 9 → c ≡ cell_in (drop at bs) → leb least c ≡ is_next_cell least (drop at bs)
+    pub next_cell : (c : ℕ) → n ≡ 9 → c ≡ cell_in bs → leb least c ≡ is_next_cell least bs
     unfolding is_next_cell
     next_cell c q e = rw (← en, eq-eqb n 9 q, e) refl
 
 pub ruleset next_laws = (cell_head, next_size, next_inside, next_cell)
 
-pub told : (r t : Bool) → r ≡ t → r ≡ true → t ≡ true
+told : (r t : Bool) → r ≡ t → r ≡ true → t ≡ true
 told r t e n = sym e ∙ n
 
--- ---- the loop over the cells
-pub start_zeros : (bs : List ℕ) (r : Start) → Starts (replicate 256 0) bs r → Starts zeros bs r
-unfolding zeros
-start_zeros bs r h = h
-
-module _ (unnamed bs : List ℕ) (at least : ℕ) (table : List ℕ) (inv : from_cell least table (drop at bs) ≡ from_cell 0 unnamed bs) (inside : at ≤ length bs) where
-  done : is_field 1 (drop at bs) ≡ false → Starts unnamed bs (record { sound = true; table = table; next = at })
-  done e = record { sound = λ s. sym inv ∙ from_paper least table (drop at bs) e; breach = λ s. absurd (let z : ◌≡◌ {A = ℕ} 0 1 = cc in omega arith); inside = inside }
-
-  pub start_end : length bs ≤ at → Starts unnamed bs (record { sound = true; table = table; next = at })
-  start_end l = done (rw (drop_of_length-le bs l) (no_field 1))
-
-  module _ (r : Bool) (er : r ≡ is_field 1 (drop at bs)) where
-    pub start_done : r ≡ false → Starts unnamed bs (record { sound = true; table = table; next = at })
-    start_done n = done (sym er ∙ n)
-
-    module _ (nr : r ≡ true) (s : Bool) (es : s ≡ is_next_cell least (drop at bs)) where
-      pub start_breach : s ≡ false → Starts unnamed bs (record { sound = false; table = table; next = at })
-      start_breach n = record {
-        sound = λ q. absurd (let z : ◌≡◌ {A = ℕ} 0 1 = cc in omega arith);
-        breach = λ q. sym inv ∙ from_breach least table (drop at bs) (told r _ er nr) (sym es ∙ n);
-        inside = inside;
-      }
-
-      module _ (ns : s ≡ true) where
-        nine : size (drop at bs) ≡ 9
-        unfolding is_next_cell
-        nine = eqb-true (size (drop at bs)) 9 (both (eqb (size (drop at bs)) 9) (leb least (cell_in (drop at bs))) (told s _ es ns)).0
-
-        pub cell_inside : at + 12 ≤ length bs
-        cell_inside = omega (arith, nine, whole 1 (drop at bs) (told r _ er nr), length-drop at bs)
-
-        pub cell_third : at + 3 < length bs
-        cell_third = omega (arith, cell_inside)
-
-        pub start_on : (c v : ℕ) → c ≡ cell_in (drop at bs) → v ≡ value_in (drop at bs) → from_cell (c + 1) (set table c v) (drop (at + 12) bs) ≡ from_cell 0 unnamed bs
-        unfolding later
-        start_on c v ec ev =
-            let w : at + (3 + size (drop at bs)) ≡ at + 12 = omega (arith, nine) in
-            let d : drop (3 + size (drop at bs)) (drop at bs) ≡ drop (at + 12) bs = drop-drop (3 + size (drop at bs)) at bs ∙ ap (λ (k : ℕ). drop k bs) w in
-            rw (add-one c, ← d, ev, ec) (sym (from_cell_lem least table (drop at bs) (told r _ er nr) (told s _ es ns)) ∙ inv)
-
-pub ruleset start_laws = (told, start_done, start_breach, cell_inside, cell_third, start_on, start_end)
-
--- ---- the loop over the paper
-module _ (bs : List ℕ) (at from : ℕ) (inv : at + paper_length (drop at bs) ≡ from + paper_length (drop from bs)) (r : Bool) (er : r ≡ is_field 16 (drop at bs)) where
-  pub paper_done : r ≡ false → at ≡ from + paper_length (drop from bs)
-  paper_done n = omega (arith, inv, paper_none (drop at bs) (sym er ∙ n))
-
-  module _ (nr : r ≡ true) where
-    pub paper_head : at + 3 ≤ length bs
-    paper_head = omega (arith, whole 16 (drop at bs) (told r _ er nr), length-drop at bs)
-
-    module _ (n : ℕ) (en : n ≡ size (drop at bs)) where
-      pub paper_inside : at + 3 + n ≤ length bs
-      paper_inside = omega (arith, whole 16 (drop at bs) (told r _ er nr), length-drop at bs)
-
-      pub paper_sum : length bs < 2 ^ 64 → Fits w64 (at + 3 + n)
-      paper_sum l = record { fits = omega (arith, paper_inside) }
-
-      pub paper_nearer : at < length bs → length bs - (at + 3 + n) < length bs - at
-      paper_nearer l = omega arith
-
-      pub paper_on : at + 3 + n + paper_length (drop (at + 3 + n) bs) ≡ from + paper_length (drop from bs)
-      unfolding later
-      paper_on =
-          let w : at + (3 + size (drop at bs)) ≡ at + 3 + n = omega arith in
-          let d : drop (3 + size (drop at bs)) (drop at bs) ≡ drop (at + 3 + n) bs = drop-drop (3 + size (drop at bs)) at bs ∙ ap (λ (k : ℕ). drop k bs) w in
-          rw (← d) (omega (arith, inv, paper_field (drop at bs) (told r _ er nr)))
-
-module _ (bs : List ℕ) (at from : ℕ) where
-  pub paper_end : at + paper_length (drop at bs) ≡ from + paper_length (drop from bs) → length bs ≤ at → at ≡ from + paper_length (drop from bs)
-  paper_end inv l = omega (arith, inv, paper_none (drop at bs) (rw (drop_of_length-le bs l) (no_field 16)))
-
-pub ruleset paper_laws = (told, paper_done, paper_head, paper_inside, paper_sum, paper_nearer, paper_on, paper_end)
-
 -- ---- the field of tickets
-module _ (bs : List ℕ) (at : ℕ) (r : Bool) (er : r ≡ is_field 2 (drop at bs)) where
-  pub turns_other : r ≡ false → false ≡ is_turns (drop at bs)
-  unfolding is_turns
-  turns_other n = rw (← er, n) refl
+module _ (bs : List ℕ) (r : Bool) (er : r ≡ is_field 2 bs) where
+  pub turns_head : r ≡ true → 3 ≤ length bs
+  turns_head nr = omega (arith, whole 2 bs (told r _ er nr))
+
+  module _ (v : Bool) where
+    pub turns_other : r ≡ false → v ≡ false → v ≡ is_turns bs
+    unfolding is_turns
+    turns_other n e = rw (← er, n) e
+
+    module _ (nr : r ≡ true) (n : ℕ) (en : n ≡ size bs) (ev : v ≡ leb n TURNS) where
+      pub turns_long : v ≡ false → v ≡ is_turns bs
+      unfolding is_turns
+      turns_long e = rw (← er, nr, ← en, ← ev, e) refl
+
+      pub turns_last : (m : ℕ) → v ≡ true → m ≡ size bs → eqb (length bs - 3) m ≡ is_turns bs
+      unfolding is_turns
+      turns_last m e em =
+          let one : eqb (length bs - 3) m ≡ true → eqb (length bs) (3 + n) ≡ true
+          = λ e. eq-eqb (length bs) (3 + n) (omega (arith, turns_head nr, eqb-true (length bs - 3) m e)) in
+          let other : eqb (length bs) (3 + n) ≡ true → eqb (length bs - 3) m ≡ true
+          = λ e. eq-eqb (length bs - 3) m (omega (arith, eqb-true (length bs) (3 + n) e)) in
+          rw (← er, nr, ← en, ← ev, e) (both_ways (eqb (length bs - 3) m) (eqb (length bs) (3 + n)) one other)
+
+pub ruleset turns_laws = (turns_other, turns_head, turns_long, turns_last)
+
+-- ---- the paper
+module _ (bs rest : List ℕ) (inv : length bs + paper_length rest ≡ length rest + paper_length bs) (r : Bool) (er : r ≡ is_field 16 rest) where
+  pub paper_done : r ≡ false → length bs - length rest ≡ paper_length bs
+  paper_done n = omega (arith, inv, paper_none rest (sym er ∙ n))
 
   module _ (nr : r ≡ true) where
-    pub turns_head : at + 3 ≤ length bs
-    turns_head = omega (arith, whole 2 (drop at bs) (told r _ er nr), length-drop at bs)
+    pub paper_head : 3 ≤ length rest
+    paper_head = omega (arith, whole 16 rest (told r _ er nr))
 
-    module _ (n : ℕ) (en : n ≡ size (drop at bs)) where
-      pub turns_long : TURNS < n → false ≡ is_turns (drop at bs)
-      unfolding is_turns
-      turns_long l = rw (← er, nr, ← en, lt-leb n TURNS l) refl
+    module _ (n : ℕ) (en : n ≡ size rest) where
+      pub paper_room : 3 + n ≤ length rest
+      paper_room = omega (arith, whole 16 rest (told r _ er nr))
 
-      pub turns_inside : at + 3 + n ≤ length bs
-      turns_inside = omega (arith, whole 2 (drop at bs) (told r _ er nr), length-drop at bs)
+      pub paper_on : length bs + paper_length (take (length rest - (3 + n)) (drop (3 + n) rest)) ≡ length (take (length rest - (3 + n)) (drop (3 + n) rest)) + paper_length bs
+      unfolding later
+      paper_on = rw (take_rest rest (3 + n), en) (omega (arith, inv, length-drop (3 + size rest) rest, whole 16 rest (told r _ er nr), paper_field rest (told r _ er nr)))
 
-      module _ (l : n ≤ TURNS) where
-        counted : eqb (length bs - at) (3 + n) ≡ is_turns (drop at bs)
-        unfolding is_turns
-        counted = rw (← er, nr, ← en, le-leb n TURNS l, length-drop at bs) refl
+pub ruleset paper_laws = (paper_done, paper_head, paper_room, paper_on)
 
-        pub turns_more : (at + 3 + n ≡ length bs → ⊥) → false ≡ is_turns (drop at bs)
-        turns_more q = sym (ne_eqb (length bs - at) (3 + n) (λ e. q (omega (arith, turns_inside)))) ∙ counted
+-- ---- the parts after the cells
+module _ (bs table : List ℕ) (n : ℕ) (en : n ≡ paper_length bs) where
+  pub parts_inside : n ≤ length bs
+  parts_inside = omega (arith, en, paper_short bs)
 
-        pub turns_last : at + 3 + n ≡ length bs → true ≡ is_turns (drop at bs)
-        turns_last q = sym (eq-eqb (length bs - at) (3 + n) (omega arith)) ∙ counted
-
-      pub turns_sum : length bs < 2 ^ 64 → Fits w64 (at + 3 + n)
-      turns_sum l = record { fits = omega (arith, turns_inside) }
-
-pub ruleset turns_laws = (turns_other, turns_head, turns_long, turns_sum, turns_more, turns_last)
-
--- ---- the parts of a session
--- a session that is in breach has no parts
-breached : (bs : List ℕ) (s : Session) (r : Parts) → r.sound ≡ false → s ≡ malformed → Divides bs s r
-breached bs s r e m = record {
-  sound = λ q. absurd (let z : ◌≡◌ {A = ℕ} 0 1 = cc in omega arith);
-  breach = λ q. m;
-  paper = λ q. absurd (let z : ◌≡◌ {A = ℕ} 0 1 = cc in omega arith);
-  room = λ q. absurd (let z : ◌≡◌ {A = ℕ} 0 1 = cc in omega arith);
-  few = λ q. absurd (let z : ◌≡◌ {A = ℕ} 0 1 = cc in omega arith);
-}
-
-module _ (bs table : List ℕ) (from to : ℕ) (et : to ≡ from + paper_length (drop from bs)) where
-  pub parts_inside : from ≤ length bs → to ≤ length bs
-  parts_inside l = omega (arith, et, paper_short (drop from bs), length-drop from bs)
-
-  rest : drop (paper_length (drop from bs)) (drop from bs) ≡ drop to bs
-  rest = drop-drop (paper_length (drop from bs)) from bs ∙ ap (λ (k : ℕ). drop k bs) (sym et)
-
-  module _ (t : Bool) (er : t ≡ is_turns (drop to bs)) where
-    pub parts_breach : (r : Parts) → t ≡ false → r.sound ≡ false → Divides bs (after_cells table (drop from bs)) r
+  module _ (turns : List ℕ) (et : turns ≡ drop n bs) (t : Bool) (er : t ≡ is_turns turns) where
+    pub parts_breach : t ≡ false → after_cells table bs ≡ malformed
     unfolding after_cells
-    parts_breach r n e = breached bs _ r e (rw (rest, ← er, n) refl)
+    parts_breach f = rw (← en, ← et, ← er, f) refl
 
-    pub parts_sound : t ≡ true → Divides bs (after_cells table (drop from bs)) (record { sound = true; table = table; paper = from; turns = to })
-    parts_sound n = record {
-      sound = λ q. whole_session;
-      breach = λ q. absurd (let z : ◌≡◌ {A = ℕ} 0 1 = cc in omega arith);
-      paper = λ q. omega (arith, et);
-      room = λ q. omega (arith, (turns_whole (drop to bs) is_turns_lem).0, length-drop to bs);
-      few = λ q. omega (arith, (turns_whole (drop to bs) is_turns_lem).1, length-drop to bs);
-    }
-      where
-        is_turns_lem : is_turns (drop to bs) ≡ true
-        is_turns_lem = told t _ er n
+    module _ (f : t ≡ true) where
+      pub parts_head : 3 ≤ length turns
+      parts_head = (turns_whole turns (told t _ er f)).0
 
-        whole_session : after_cells table (drop from bs) ≡ session table (take (to - from) (drop from bs)) (drop (to + 3) bs)
-        whole_session =
-            let w : to - from ≡ paper_length (drop from bs) = omega (arith, et) in
-            after_turns table (drop from bs) (rw rest is_turns_lem) ∙ rw (w, rest, drop-drop 3 to bs) refl
+      pub parts_few : length (take (length turns - 3) (drop 3 turns)) ≤ TURNS
+      parts_few = rw (take_rest turns 3) (omega (arith, length-drop 3 turns, (turns_whole turns (told t _ er f)).1))
 
-pub ruleset parts_laws = (parts_inside, parts_breach, parts_sound)
+      pub parts_session : (paper : List ℕ) → paper ≡ take n bs → after_cells table bs ≡ session table paper (take (length turns - 3) (drop 3 turns))
+      unfolding after_cells
+      parts_session paper ep = rw (take_rest turns 3, ← en, ← et, ← er, f, ep) refl
 
-module _ (bs : List ℕ) (r : Parts) where
-  pub session_large : BYTES < length bs → r.sound ≡ false → Divides bs (session_of bs) r
+pub ruleset parts_laws = (parts_inside, parts_breach, parts_head, parts_few, parts_session)
+
+-- ---- the loop over the cells
+module _ (bs rest table : List ℕ) (least : ℕ) (inv : from_cell least table rest ≡ session_of bs) (r : Bool) (er : r ≡ is_field 1 rest) where
+  pub cells_done : r ≡ false → (p : Option Parts) → Divides (after_cells table rest) p → Divides (session_of bs) p
+  cells_done n p d = rw (sym (sym inv ∙ from_paper least table rest (sym er ∙ n))) at d
+
+  module _ (nr : r ≡ true) (s : Bool) (es : s ≡ is_next_cell least rest) where
+    pub cells_breach : s ≡ false → session_of bs ≡ malformed
+    cells_breach n = sym inv ∙ from_breach least table rest (told r _ er nr) (sym es ∙ n)
+
+    module _ (ns : s ≡ true) where
+      nine : size rest ≡ 9
+      unfolding is_next_cell
+      nine = eqb-true (size rest) 9 (both (eqb (size rest) 9) (leb least (cell_in rest)) (told s _ es ns)).0
+
+      pub cell_inside : 12 ≤ length rest
+      cell_inside = omega (arith, nine, whole 1 rest (told r _ er nr))
+
+      pub cell_third : 3 < length rest
+      cell_third = omega (arith, cell_inside)
+
+      pub cells_on : (c v : ℕ) → c ≡ cell_in rest → v ≡ value_in rest → from_cell (c + 1) (set table c v) (take (length rest - 12) (drop 12 rest)) ≡ session_of bs
+      unfolding later
+      cells_on c v ec ev =
+          let d : later rest ≡ drop 12 rest = ap (λ (k : ℕ). drop (3 + k) rest) nine in
+          rw (take_rest rest 12, add-one c, ← d, ev, ec) (sym (from_cell_lem least table rest (told r _ er nr) (told s _ es ns)) ∙ inv)
+
+-- ---- a whole session
+module _ (bs : List ℕ) where
+  pub session_large : BYTES < length bs → session_of bs ≡ malformed
   unfolding session_of
-  session_large l e = breached bs _ r e (rw (lt-ltb BYTES (length bs) l) refl)
+  session_large l = rw (lt-ltb BYTES (length bs) l) refl
 
-  module _ (small : length bs ≤ BYTES) (s : Start) (starts : Starts zeros bs s) where
-    pub session_breach : s.sound ≡ false → r.sound ≡ false → Divides bs (session_of bs) r
-    unfolding session_of
-    session_breach n e = breached bs _ r e (rw (le-ltb BYTES (length bs) small) (starts.breach n))
+  pub session_starts : length bs ≤ BYTES → from_cell 0 (replicate 256 0) bs ≡ session_of bs
+  unfolding session_of zeros
+  session_starts l = rw (le-ltb BYTES (length bs) l) refl
 
-    pub session_parts : s.sound ≡ true → Divides bs (after_cells s.table (drop s.next bs)) r → Divides bs (session_of bs) r
-    unfolding session_of
-    session_parts n d = rw (le-ltb BYTES (length bs) small, starts.sound n) d
-
-pub start_inside : (bs : List ℕ) (s : Start) → Starts zeros bs s → s.next ≤ length bs
-start_inside bs s h = h.inside
-
-pub ruleset session_laws = (session_large, session_breach, session_parts, start_inside)
+pub ruleset session_laws = (session_large, session_starts, cells_done, cells_breach, cell_inside, cell_third, cells_on)

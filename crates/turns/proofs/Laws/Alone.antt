@@ -1,18 +1,17 @@
 -- A job alone: the code's instruction is the machine's, where a READ's value takes the place of the cell number;
 -- and each instruction keeps that the rest is the rest of the whole, with room in the journal for what may still be written.
 use mathlib.Core.Path.{◌≡◌, refl, ap, sym, subst, ◌∙◌}
-use mathlib.Core.Bool.{true, false, not, ◌&&◌}
+use mathlib.Core.Bool.{◌&&◌}
+use mathlib.Core.Logic.{◌⊎◌, inl, inr}
 use mathlib.Core.List.{List, [], ◌∷◌, ◌++◌}
 use Prim.Native.Nat.{ℕ, suc, ◌+◌, ◌≤◌, ◌<◌}
 use native.Mathlib.Omega.{arith}
 use lib.Dec.{leb, ltb}
 use lib.ListN.{length, get_or, length-append}
-use borrow.Author.Tests.{leb-true, not-true, not-false}
+use borrow.Author.Tests.{leb-true}
 use Rattle.theory.specs.Lists.{length_firsts, get_d_firsts}
 use Rattle.theory.specs.Promise.{Act}
 use Rattle.theory.specs.Every.{every_append}
-use Rattle.theory.specs.Engine as E
-use Rattle.theory.specs.Engine.{last_at}
 use Rattle.theory.specs.Serial.{over, solo, alone}
 use Rattle.machine.specs.Limits.{ROOM, CELLS}
 use Rattle.machine.specs.Machine.{State as Plain, Running, stopping, current, starting, formed, sizes, in_job, given}
@@ -26,32 +25,14 @@ use Rattle.machine.specs.declared.step.Stepped.{Stepped}
 use Rattle.machine.specs.declared.step.Act.{Act as CodeAct}
 use Rattle.machine.specs.declared.step.Act.TheVariants.{Nothing, Read, Write, Stop, Abandon, Stuck}
 use Rattle.rules.specs.Box.{box, box_checked, box_promise}
-use Rattle.rules.specs.View.{entry_of, journal_of, length_journal, found_of}
+use Rattle.rules.specs.View.{entry_of, journal_of, length_journal}
 use Rattle.rules.specs.Block.{running_of}
-use Rattle.turns.specs.SerialRun.{cells_of}
 use Rattle.rules.specs.Steps.{StepsIn, Passes}
-use Rattle.turns.specs.Alone.{Leaves, Runs, Goes, GoesOn, Begins, to_go}
-use Rattle.rules.specs.declared.block.Entry.{Entry}
+use Rattle.turns.specs.Alone.{Leaves, Runs, RunsOn, Begins}
 use Rattle.rules.specs.declared.block.Journal.{Journal}
-use Rattle.rules.specs.declared.journal.Found.{Found}
-use Rattle.rules.specs.declared.journal.Found.TheVariants.{At, Nowhere}
 use Rattle.turns.specs.declared.serial.Alone.{Alone}
-use Rattle.rules.proofs.Laws.Own.{own_low}
 use Rattle.rules.proofs.Laws.Given.{given_is}
-use Rattle.rules.proofs.Laws.Words.{not_both}
 use Rattle.turns.proofs.Laws.Solo.{solo_stop, solo_abandon, rest_nothing, rest_read, rest_write}
-
--- ---- what a job alone reads
-module _ (j : Journal) (c : ℕ) (r : Found) (er : found_of r ≡ last_at (journal_of j) c) where
-  pub read_own : (table : List ℕ) (p : ℕ) (e : Entry) → r ≡ At p → entry_of e ≡ get_or (journal_of j) p E.no_entry → e.value ≡ over (journal_of j) (cells_of table) c
-  unfolding found_of
-  read_own table p e q w = rw (← er, q, ← w) refl
-
-  pub read_table : (table : List ℕ) → r ≡ Nowhere → get_or table c 0 ≡ over (journal_of j) (cells_of table) c
-  unfolding found_of
-  read_table table q = rw (← er, q) refl
-
-pub ruleset read_laws = (own_low, read_own, read_table)
 
 -- ---- the instruction at which a job stands
 pub steps_in : (job : Job) (s : State) (r : Stepped) → s.place.0 < job.size → Steps ROOM job.size (get_or job.code s.place.0 stopping) (state_of s) r.act (state_of r.state)
@@ -59,25 +40,22 @@ pub steps_in : (job : Job) (s : State) (r : Stepped) → s.place.0 < job.size �
 steps_in job s r l h = record { steps = rw (length_firsts job.size stopping job.code, get_d_firsts job.size stopping job.code s.place.0 l) h }
 
 -- a state of a job that passed stands in its job
-module _ (job : Job) (T : ℕ → ℕ) (a : Alone) (e : a.ended ≡ false) (g : Goes (code_of job) T a) where
+module _ (job : Job) (T : ℕ → ℕ) (a : Alone) (g : Runs (code_of job) T a) where
   pub place_in : a.state.place.0 < job.size
-  place_in = omega (arith, length_firsts job.size stopping job.code, box_checked.some_left (running_of (code_of job) a.state) (g.runs e).ok)
+  place_in = omega (arith, length_firsts job.size stopping job.code, box_checked.some_left (running_of (code_of job) a.state) g.ok)
 
   pub size_in : job.size ≤ 64
   unfolding sizes
   size_in =
       let n = length (code_of job) in
-      let x = both (leb n 64 && formed (code_of job) n n && ltb a.state.place.0 n) (leb (length (state_of a.state).stack) 16) (box_checked.ok_fits (running_of (code_of job) a.state) (g.runs e).ok) in
+      let x = both (leb n 64 && formed (code_of job) n n && ltb a.state.place.0 n) (leb (length (state_of a.state).stack) 16) (box_checked.ok_fits (running_of (code_of job) a.state) g.ok) in
       let y = both (leb n 64 && formed (code_of job) n n) (ltb a.state.place.0 n) x.0 in
       let z = leb-true n 64 (both (leb n 64) (formed (code_of job) n n) y.0).0 in
       omega (arith, z, length_firsts job.size stopping job.code)
 
-module _ (is : List Instruction) (T : ℕ → ℕ) (a : Alone) (r : Stepped) (ended : a.ended ≡ false) (g : Goes is T a) (er : StepsIn is a.state r) where
+module _ (is : List Instruction) (T : ℕ → ℕ) (a : Alone) (r : Stepped) (known : Runs is T a) (er : StepsIn is a.state r) where
   abbrev here : Running
   here = running_of is a.state
-
-  known : Runs is T a
-  known = g.runs ended
 
   abbrev told : CodeAct → Act Running
   told x = in_job is (act_of x (state_of r.state))
@@ -85,45 +63,38 @@ module _ (is : List Instruction) (T : ℕ → ℕ) (a : Alone) (r : Stepped) (en
   asks : (x : CodeAct) → r.act ≡ x → box.act here ≡ told x
   asks x e = sym (ap (in_job is) er.steps.asks) ∙ ap told e
 
-  pub few_entries : a.journal.size ≤ 8
-  few_entries = known.writes.few
-
-  pub read_inside : (table : List ℕ) (c : Cell) → r.act ≡ Read c → length table ≡ 256 → c.0 < length table
-  read_inside table c e l = omega (arith, box_promise.cell_read here c.0 (asks (Read c) e))
+  pub read_inside : (c : Cell) → r.act ≡ Read c → c.0 < CELLS
+  read_inside c e = omega (arith, box_promise.cell_read here c.0 (asks (Read c) e))
 
   pub write_room : (c : Cell) (v : ℕ) → r.act ≡ Write c v → a.journal.size < 8
   write_room c v e = omega (arith, known.room, (box_checked.ok_write here (running_of is r.state) c.0 v known.ok (asks (Write c v) e)).2)
 
-  -- on to a state of the job
-  on : (t : State) (j : Journal) → Runs is T (record { ended = false; state = t; journal = j }) → box.left (running_of is t) < box.left here → GoesOn is T a (record { ended = false; state = t; journal = j })
-  unfolding to_go
-  on t j k l = record { goes = record { runs = λ q. k; ends = not_both }; less = rw ended (omega arith) }
-
-  -- to its end
-  off : (b : Alone) → b.ended ≡ true → Leaves is T b.journal → GoesOn is T a b
-  unfolding to_go
-  off b e k = record { goes = record { runs = λ q. not_both (sym q ∙ e); ends = λ q. k }; less = rw (e, ended) (omega arith) }
-
-  pub alone_nothing : r.act ≡ Nothing → GoesOn is T a (record { ended = false; state = r.state; journal = a.journal })
+  pub alone_nothing : r.act ≡ Nothing → RunsOn is T a (record { state = r.state; journal = a.journal })
   alone_nothing e =
       let t = running_of is r.state in
       let k = box_checked.ok_nothing here t known.ok (asks Nothing e) in
-      on r.state a.journal (record {
-        writes = known.writes;
-        ok = k.0;
-        room = omega (arith, known.room, k.2);
-        rest = rest_nothing box T CELLS box_promise (journal_of a.journal) here _ known.rest t (asks Nothing e);
-      }) (box_promise.after_nothing here t (asks Nothing e))
+      record {
+        runs = record {
+          writes = known.writes;
+          ok = k.0;
+          room = omega (arith, known.room, k.2);
+          rest = rest_nothing box T CELLS box_promise (journal_of a.journal) here _ known.rest t (asks Nothing e);
+        };
+        less = box_promise.after_nothing here t (asks Nothing e);
+      }
 
   pub alone_read : (c : Cell) (v : ℕ) (t : State) → r.act ≡ Read c → v ≡ over (journal_of a.journal) T c.0 → state_of t ≡ given ROOM v (state_of r.state)
-      → GoesOn is T a (record { ended = false; state = t; journal = a.journal })
+      → RunsOn is T a (record { state = t; journal = a.journal })
   alone_read c v t e ev et =
-      on t a.journal (record {
-        writes = known.writes;
-        ok = rw same k.0;
-        room = rw same (omega (arith, known.room, k.2));
-        rest = rest_read box T CELLS box_promise (journal_of a.journal) here _ known.rest (running_of is t) c.0 (asks (Read c) e) (same ∙ ap (box.given here) ev);
-      }) (subst (λ (x : Running). box.left x < box.left here) (sym same) (box_promise.after_read here c.0 v (asks (Read c) e)))
+      record {
+        runs = record {
+          writes = known.writes;
+          ok = rw same k.0;
+          room = rw same (omega (arith, known.room, k.2));
+          rest = rest_read box T CELLS box_promise (journal_of a.journal) here _ known.rest (running_of is t) c.0 (asks (Read c) e) (same ∙ ap (box.given here) ev);
+        };
+        less = subst (λ (x : Running). box.left x < box.left here) (sym same) (box_promise.after_read here c.0 v (asks (Read c) e));
+      }
     where
       same : running_of is t ≡ box.given here v
       same =
@@ -134,14 +105,17 @@ module _ (is : List Instruction) (T : ℕ → ℕ) (a : Alone) (r : Stepped) (en
       k = box_checked.ok_read here c.0 v known.ok (asks (Read c) e)
 
   pub alone_write : (c : Cell) (v : ℕ) (j : Journal) → r.act ≡ Write c v → journal_of j ≡ journal_of a.journal ++ (entry_of (record { cell = c; value = v }) ∷ [])
-      → GoesOn is T a (record { ended = false; state = r.state; journal = j })
+      → RunsOn is T a (record { state = r.state; journal = j })
   alone_write c v j e ej =
-      on r.state j (record {
-        writes = record { few = omega (arith, size, known.room, k.2); cells = rw ej (every_append (λ x. x.cell < CELLS) (journal_of a.journal) _ known.writes.cells (box_promise.cell_write here t c.0 v (asks (Write c v) e), tt)) };
-        ok = k.0;
-        room = omega (arith, size, known.room, k.2);
-        rest = rest_write box T CELLS box_promise (journal_of a.journal) here _ known.rest (journal_of j) t c.0 v (asks (Write c v) e) ej;
-      }) (box_promise.after_write here t c.0 v (asks (Write c v) e))
+      record {
+        runs = record {
+          writes = record { few = omega (arith, size, known.room, k.2); cells = rw ej (every_append (λ x. x.cell < CELLS) (journal_of a.journal) _ known.writes.cells (box_promise.cell_write here t c.0 v (asks (Write c v) e), tt)) };
+          ok = k.0;
+          room = omega (arith, size, known.room, k.2);
+          rest = rest_write box T CELLS box_promise (journal_of a.journal) here _ known.rest (journal_of j) t c.0 v (asks (Write c v) e) ej;
+        };
+        less = box_promise.after_write here t c.0 v (asks (Write c v) e);
+      }
     where
       t : Running
       t = running_of is r.state
@@ -152,53 +126,28 @@ module _ (is : List Instruction) (T : ℕ → ℕ) (a : Alone) (r : Stepped) (en
       size : j.size ≡ a.journal.size + 1
       size = sym (length_journal j) ∙ ap length ej ∙ length-append (journal_of a.journal) _ ∙ ap (λ (n : ℕ). n + 1) (length_journal a.journal)
 
-  pub alone_stop : (t : State) → r.act ≡ Stop → GoesOn is T a (record { ended = true; state = t; journal = a.journal })
-  alone_stop t e =
-      off (record { ended = true; state = t; journal = a.journal }) refl (record {
-        writes = known.writes;
-        does = sym (solo_stop box T _ (journal_of a.journal) here (asks Stop e)) ∙ known.rest;
-      })
+  pub alone_stop : r.act ≡ Stop → Leaves is T a.journal
+  alone_stop e = record { writes = known.writes; does = sym (solo_stop box T _ (journal_of a.journal) here (asks Stop e)) ∙ known.rest }
 
-  pub alone_abandon : (b : Alone) → r.act ≡ Abandon → b.ended ≡ true → journal_of b.journal ≡ [] → GoesOn is T a b
-  alone_abandon b e eb ej =
-      off b eb (record {
-        writes = record { few = omega (arith, ap length ej, length_journal b.journal); cells = rw ej tt };
-        does = rw ej (sym (solo_abandon box T _ (journal_of a.journal) here (asks Abandon e)) ∙ known.rest);
-      })
-
-  pub alone_stuck : (b : Alone) → r.act ≡ Stuck → GoesOn is T a b
-  alone_stuck b e = absurd (box_checked.not_stuck here known.ok (asks Stuck e))
-
-pub ruleset step_laws = (place_in, size_in, few_entries, read_inside, write_room, alone_nothing, alone_read, alone_write, alone_stop, alone_abandon, alone_stuck)
+  pub alone_abandon : (j : Journal) → (r.act ≡ Abandon) ⊎ (r.act ≡ Stuck) → journal_of j ≡ [] → Leaves is T j
+  alone_abandon j (inl e) ej = record {
+    writes = record { few = omega (arith, ap length ej, length_journal j); cells = rw ej tt };
+    does = rw ej (sym (solo_abandon box T _ (journal_of a.journal) here (asks Abandon e)) ∙ known.rest);
+  }
+  alone_abandon j (inr e) ej = absurd (box_checked.not_stuck here known.ok (asks Stuck e))
 
 -- ---- the whole of a job alone
-module _ (job : Job) (T : ℕ → ℕ) where
-  pub alone_start : (a : Alone) → Passes job → Begins a → Goes (code_of job) T a
-  unfolding alone
-  alone_start a p b = record {
-    runs = λ q. record {
-      writes = record { few = omega (arith, empty); cells = rw b.empty tt };
-      ok = rw same p.passed.ok;
-      room = rw same (omega (arith, empty, p.passed.few_writes));
-      rest = ap (λ (x : Running). solo box (suc (box.left x)) T (journal_of a.journal) x) same ∙ rw b.empty refl;
-    };
-    ends = λ q. not_both (sym b.going ∙ q);
-  }
-    where
-      same : running_of (code_of job) a.state ≡ starting (code_of job)
-      same = ap (λ (x : Plain). record { code = code_of job; state = x }) b.state
+pub alone_start : (job : Job) (T : ℕ → ℕ) (a : Alone) → Passes job → Begins a → Runs (code_of job) T a
+unfolding alone
+alone_start job T a p b = record {
+  writes = record { few = omega (arith, empty); cells = rw b.empty tt };
+  ok = rw same p.passed.ok;
+  room = rw same (omega (arith, empty, p.passed.few_writes));
+  rest = ap (λ (x : Running). solo box (suc (box.left x)) T (journal_of a.journal) x) same ∙ rw b.empty refl;
+}
+  where
+    same : running_of (code_of job) a.state ≡ starting (code_of job)
+    same = ap (λ (x : Plain). record { code = code_of job; state = x }) b.state
 
-      empty : a.journal.size ≡ 0
-      empty = sym (length_journal a.journal) ∙ ap length b.empty
-
-  module _ (a : Alone) where
-    pub alone_going : not a.ended ≡ true → a.ended ≡ false
-    alone_going e = not-true a.ended e
-
-    pub alone_on : (b : Alone) → GoesOn (code_of job) T a b → Goes (code_of job) T b
-    alone_on b g = g.goes
-
-    pub alone_end : not a.ended ≡ false → Goes (code_of job) T a → Leaves (code_of job) T a.journal
-    alone_end e g = g.ends (not-false a.ended e)
-
-pub ruleset alone_laws = (alone_start, alone_going, alone_on, alone_end)
+    empty : a.journal.size ≡ 0
+    empty = sym (length_journal a.journal) ∙ ap length b.empty

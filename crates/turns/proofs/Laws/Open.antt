@@ -1,25 +1,22 @@
 -- An opened block stands for fresh jobs, since each count is 0 and each array is filled with one entry;
 -- and the jobs that are opened are those of the checker's answer.
 use mathlib.Core.Path.{◌≡◌, refl, ap, sym, ◌∙◌}
+use Rattle.std.specs.Prelude.{Ok, Err}
 use mathlib.Core.List.{List, [], map}
 use Prim.Native.Nat.{ℕ, ◌*◌, ◌≤◌, ◌<◌}
 use native.Mathlib.Omega.{arith}
-use lib.ListN.{length, get_or, replicate, get_or-replicate}
+use lib.ListN.{length, get_or, take, replicate, get_or-replicate}
 use borrow.Author.Tests.{ne_eqb}
 use Rattle.theory.specs.Lists.{length_firsts, tab_same, get_d_tab, map_tab}
 use Rattle.theory.specs.Engine as E
 use Rattle.machine.specs.Limits.{LONGEST, FEW, JOBS, CELLS}
 use Rattle.machine.specs.Machine.{Running, stopping, starting}
-use Rattle.machine.specs.Paper.{refused, refusal, paper_answer}
-use Rattle.machine.specs.View.{fresh_state, no_job, number, answer_of, Answers}
-use Rattle.machine.specs.declared.counts.Place.{Place}
+use Rattle.machine.specs.Paper.{paper_answer}
+use Rattle.machine.specs.View.{code_of, fresh_state, no_job, Answers}
 use Rattle.machine.specs.declared.instruction.Instruction.{Instruction}
 use Rattle.machine.specs.declared.job.State.{State}
-use Rattle.machine.specs.declared.paper.Checked.{Checked}
-use Rattle.machine.specs.declared.paper.Field.{Field}
-use Rattle.machine.specs.declared.paper.Verdict.{Verdict}
-use Rattle.machine.specs.declared.paper.Verdict.TheVariants.{Accepted as AcceptedPaper, Refused as RefusedPaper}
-use Rattle.machine.specs.declared.verdict.Fault.{Fault}
+use Rattle.machine.specs.declared.paper.Jobs.{Jobs}
+use Rattle.machine.specs.declared.paper.Refusal.{Refusal}
 use Rattle.rules.specs.Program.{no_program, stops_of, packed, program_of, all_packed}
 use Rattle.rules.specs.View.{entries_of, versions_of, mark_of, no_journal, no_versions, no_reads, empty_journal, empty_versions, empty_reads}
 use Rattle.rules.specs.Box.{box, limits}
@@ -30,9 +27,9 @@ use Rattle.rules.specs.declared.block.Versions.{Versions}
 use Rattle.rules.specs.declared.block.Reads.{Reads}
 use Rattle.rules.specs.declared.block.Program.{Program}
 use Rattle.rules.specs.declared.block.Block.{Block}
-use Rattle.turns.specs.declared.open.Opening.{Opening}
-use Rattle.turns.specs.declared.open.Opening.TheVariants.{Accepted, WrongTable, Refused}
-use Rattle.turns.proofs.Laws.Accepted.{jobs_of, jobs_long, job_is_lem, accepted, few_jobs, all_pass}
+use Rattle.turns.specs.declared.open.OpenRefusal.{OpenRefusal}
+use Rattle.turns.specs.declared.open.OpenRefusal.TheVariants.{WrongTable, Paper}
+use Rattle.turns.proofs.Laws.Accepted.{jobs_of, jobs_long, job_is_lem, few_jobs, all_pass, part_jobs}
 use Rattle.rules.proofs.Laws.Filled.{tab_get_d}
 use Rattle.rules.proofs.Laws.Program.{passed_few, packed_stands}
 
@@ -72,43 +69,29 @@ unfolding nothing_open
 nothing_stands = whole_is (replicate CELLS 0) [] (omega arith) (λ k l. absurd (omega arith))
 
 -- ---- the answer
-pub opening_accepted : (v : Verdict) → v ≡ AcceptedPaper → opening_of Accepted ≡ refusal (answer_of v 0 [])
-unfolding opening_of
-opening_accepted v e = rw e refl
-
-pub opening_refused : (v : Verdict) (f : Fault) (g : Field) (p : Place) → v ≡ RefusedPaper f g p → opening_of (Refused f g p) ≡ refusal (answer_of v 0 [])
-unfolding opening_of
-opening_refused v f g p e = rw e refl
-
 module _ (start paper : List ℕ) where
-  pub open_wrong : (b : Block) → (length start ≡ CELLS → ⊥) → b ≡ whole_block (replicate CELLS 0) [] → Opens start paper (record { answer = WrongTable; block = b })
+  pub open_wrong : (b : Block) → (length start ≡ CELLS → ⊥) → b ≡ whole_block (replicate CELLS 0) [] → Opens start paper (record { answer = Err WrongTable; block = b })
   unfolding opening_of open_answer open_block open_whole
   open_wrong b e q = record { answer = rw (ne_eqb _ _ e) refl; block = rw (ne_eqb _ _ e) (ap block_of q ∙ nothing_stands); whole = rw (ne_eqb _ _ e) q }
 
-  module _ (es : length start ≡ CELLS) (r : Checked) (er : Answers r (paper_answer paper)) where
-    pub open_refused : (o : Opening) (b : Block) (f : Fault) (g : Field) (p : Place) → r.verdict ≡ RefusedPaper f g p → opening_of o ≡ refusal (answer_of r.verdict 0 []) → b ≡ whole_block (replicate CELLS 0) []
-        → Opens start paper (record { answer = o; block = b })
-    unfolding open_answer open_block opened_by open_whole whole_by
-    open_refused o b f g p e q eb =
-        let a : refused (number f) g.0 p.0 ≡ paper_answer paper = ap (λ (v : Verdict). answer_of v r.count r.jobs) (sym e) ∙ er.answer in
-        record { answer = rw (es, ← a) (q ∙ rw e refl); block = rw (es, ← a) (ap block_of eb ∙ nothing_stands); whole = rw (es, ← a) eb }
+  module _ (es : length start ≡ CELLS) where
+    pub open_refused : (e : Refusal) (r : OpenRefusal) (b : Block) → Answers (Err e) (paper_answer paper) → r ≡ Paper e → b ≡ whole_block (replicate CELLS 0) []
+        → Opens start paper (record { answer = Err r; block = b })
+    unfolding opening_of open_answer open_block opened_by open_whole whole_by
+    open_refused e r b er q eb = record { answer = rw (es, ← er.answer, q) refl; block = rw (es, ← er.answer) (ap block_of eb ∙ nothing_stands); whole = rw (es, ← er.answer) eb }
 
-    module _ (e : r.verdict ≡ AcceptedPaper) where
-      short : (k : ℕ) → k < length (jobs_of r) → length (get_or (jobs_of r) k []) ≤ LONGEST
+    module _ (js : Jobs) (er : Answers (Ok js) (paper_answer paper)) where
+      short : (k : ℕ) → k < length (jobs_of js) → length (get_or (jobs_of js) k []) ≤ LONGEST
       short k l =
-          let m : k < r.count = omega (arith, l, jobs_long r) in
-          rw (job_is_lem r k m) (omega (arith, passed_few (get_or r.jobs k no_job) ((all_pass paper r er e).pass k m), length_firsts (get_or r.jobs k no_job).size stopping (get_or r.jobs k no_job).code))
+          let m : k < js.count = omega (arith, l, jobs_long js) in
+          rw (job_is_lem js k m) (omega (arith, passed_few (get_or js.jobs k no_job) ((all_pass paper js er).pass k m), length_firsts (get_or js.jobs k no_job).size stopping (get_or js.jobs k no_job).code))
 
-      pub open_accepted : (b : Block) (table : List ℕ) (ps : List Program) → table ≡ start → ps ≡ all_packed (jobs_of r) → b ≡ filled_block table r.count ps → Opens start paper (record { answer = Accepted; block = b })
+      pub open_accepted : (b : Block) (table : List ℕ) (ps : List Program) → table ≡ start → length js.jobs ≡ 16 → ps ≡ all_packed (map code_of (take js.count js.jobs)) → b ≡ filled_block table js.count ps → Opens start paper (record { answer = Ok tt; block = b })
       unfolding opening_of open_answer open_block opened_by open_whole whole_by whole_block
-      open_accepted b table ps et ep eb =
-          let whole : b ≡ whole_block start (jobs_of r) = eb ∙ rw (et, ep, jobs_long r) refl in
+      open_accepted b table ps et whole ep eb =
+          let same : b ≡ whole_block start (jobs_of js) = eb ∙ rw (et, ep, part_jobs paper js er whole, jobs_long js) refl in
           record {
-            answer = rw (es, ← accepted paper r er e) refl;
-            block = rw (es, ← accepted paper r er e) (ap block_of whole ∙ whole_is start (jobs_of r) (rw (jobs_long r) (few_jobs paper r er e)) short);
-            whole = rw (es, ← accepted paper r er e) whole;
+            answer = rw (es, ← er.answer) refl;
+            block = rw (es, ← er.answer) (ap block_of same ∙ whole_is start (jobs_of js) (rw (jobs_long js) (few_jobs paper js er)) short);
+            whole = rw (es, ← er.answer) same;
           }
-
-pub ruleset answer_laws = (opening_accepted, opening_refused)
-
-pub ruleset open_laws = (open_wrong, open_refused, few_jobs, all_pass, open_accepted)

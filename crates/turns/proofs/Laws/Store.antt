@@ -1,20 +1,19 @@
 -- A turn reads its job's parts from the block and stores the parts that the rules made of them: where the ticket is the block's and
 -- the block fits, what is stored is the block of the plain turn.
 use mathlib.Core.Path.{◌≡◌, refl, ap, sym, subst, ◌∙◌}
-use mathlib.Core.Bool.{Bool, true, false, not, cond, ◌||◌}
+use mathlib.Core.Bool.{Bool, true, false}
+use Rattle.std.specs.Prelude.{Option, None, Some}
 use mathlib.Core.Logic.{◌⊎◌, inl, inr}
 use mathlib.Core.List.{List}
 use Prim.Native.Nat.{ℕ, zero, suc, ◌-◌, ◌≤◌, ◌<◌}
 use native.Mathlib.Omega.{arith}
 use native.Mathlib.Decide.{ℕ_discrete, dec_lt}
-use lib.Dec.{ltb}
 use lib.ListN.{length, get_or, set, length-set}
 use lib.Seq.{get_or-set_same, get_or-set_other}
 use borrow.Author.Tests.{eq-eqb, ne_eqb, lt-ltb}
 use Rattle.theory.specs.Engine as E
 use Rattle.machine.specs.Limits.{LONGEST}
 use Rattle.machine.specs.declared.job.State.{State}
-use Rattle.machine.specs.declared.step.Act.TheVariants.{Stuck as StuckAct}
 use Rattle.machine.specs.declared.step.Stepped.{Stepped}
 use Rattle.rules.specs.Box.{box, limits}
 use Rattle.rules.specs.Program.{no_program, program_of}
@@ -23,9 +22,9 @@ use Rattle.rules.specs.Block.{code_at, no_state, no_checkpoint, block_of}
 use Rattle.rules.specs.Steps.{StepsIn}
 use Rattle.rules.specs.Marks.{Shown, mark_reads, sweep, ListsFit}
 use Rattle.rules.specs.Fitting.{count_fit}
-use Rattle.rules.specs.Turn.{moving, foreign, refusing, Did, Keeps, Turns, Whole}
-use Rattle.rules.specs.Own.{still, slot_at, parts_at, own_of, shows_of, marked_by, placed, stored_at, Long, Done, Moves, around_of, AtTurn, Asks, Ready, StepsIf, MovesIf, MayMark}
-use Rattle.turns.specs.Change.{change_by, Changes}
+use Rattle.rules.specs.Turn.{moving, foreign, Did, Keeps, Turns, Whole}
+use Rattle.rules.specs.Own.{still, slot_at, parts_at, own_of, shows_of, marked_by, placed, stored_at, Long, Done, Moves, around_of, AtTurn, Asks, Ready, MayMark}
+use Rattle.turns.specs.Change.{refusing, index_if, StepsIf, MovesIf, change_by, Changes}
 use Rattle.rules.specs.declared.block.Program.{Program}
 use Rattle.rules.specs.declared.block.Reads.{Reads}
 use Rattle.rules.specs.declared.block.Block.{Block}
@@ -35,49 +34,22 @@ use Rattle.rules.specs.declared.own.Around.{Around}
 use Rattle.rules.specs.declared.own.Move.{Move}
 use Rattle.turns.specs.declared.turn.Change.{Change}
 use Rattle.words.specs.declared.word.Word.{Word}
-use Rattle.words.specs.declared.word.Word.TheVariants.{BadTicket, Stuck}
 use Rattle.rules.proofs.Laws.Words.{not_both}
 use Rattle.rules.proofs.Laws.Words.{inside_of}
 use Rattle.rules.proofs.Laws.Reading.{below_showing}
 use Rattle.rules.proofs.Laws.Rules.{idle_leaves}
-use Rattle.turns.proofs.Laws.Turn.{whole_fit, turn_foreign, turn_misfit, turn_taken}
+use Rattle.turns.proofs.Laws.Turn.{whole_fit, not_refused, turn_refused, turn_taken}
 use Rattle.rules.proofs.Laws.Placed.{stored_still}
 use Rattle.rules.proofs.Laws.Take.{steps_cells}
 
 -- ---- whose ticket
-module _ (n t : ℕ) where
-  pub foreign_zero : t ≡ 0 → true ≡ foreign n t
-  foreign_zero e = rw (eq-eqb t 0 e) refl
-
-  pub foreign_past : (t ≡ 0 → ⊥) → ltb n t ≡ foreign n t
-  foreign_past e = rw (ne_eqb t 0 e) refl
-
-pub ruleset foreign_laws = (foreign_zero, foreign_past)
-
 pub own_ticket : (n t : ℕ) → foreign n t ≡ false → (0 < t) × (t ≤ n)
 own_ticket n t e = go (ℕ_discrete t 0) (dec_lt n t)
   where
     go : Dec (t ≡ 0) → Dec (n < t) → (0 < t) × (t ≤ n)
-    go (yes q) l = absurd (let z : ◌≡◌ {A = Bool} true false = foreign_zero n t q ∙ e in let w : ◌≡◌ {A = ℕ} 0 1 = cc in omega arith)
-    go (no q) (yes l) = absurd (let z : ◌≡◌ {A = Bool} true false = sym (lt-ltb n t l) ∙ foreign_past n t q ∙ e in let w : ◌≡◌ {A = ℕ} 0 1 = cc in omega arith)
+    go (yes q) l = not_both (sym e ∙ rw (eq-eqb t 0 q) refl)
+    go (no q) (yes l) = not_both (sym e ∙ rw (ne_eqb t 0 q, lt-ltb n t l) refl)
     go (no q) (no l) = (omega arith, omega arith)
-
-module _ (x fits : Bool) (n t : ℕ) (e : x ≡ foreign n t) where
-  pub refused_ticket : x ≡ true → true ≡ (foreign n t || not fits)
-  refused_ticket q = rw (← e, q) refl
-
-  pub refused_misfit : x ≡ false → not fits ≡ (foreign n t || not fits)
-  refused_misfit q = rw (← e, q) refl
-
-pub ruleset refused_laws = (refused_ticket, refused_misfit)
-
-pub not_refused : (fits : Bool) (n t : ℕ) (y : Bool) → y ≡ (foreign n t || not fits) → y ≡ false → (foreign n t ≡ false) × (fits ≡ true)
-not_refused fits n t y ey q = go (foreign n t) fits (sym ey ∙ q)
-  where
-    go : (f g : Bool) → (f || not g) ≡ false → (f ≡ false) × (g ≡ true)
-    go false true z = (refl, refl)
-    go false false z = absurd (let w : ◌≡◌ {A = ℕ} 0 1 = cc in omega arith)
-    go true g z = absurd (let w : ◌≡◌ {A = ℕ} 0 1 = cc in omega arith)
 
 length_sweep : (f : Reads → Reads) (k n : ℕ) (ls : List Reads) → length (sweep f k n ls) ≡ length ls
 unfolding sweep
@@ -191,90 +163,54 @@ module _ (b : Block) (t : ℕ) (mine : foreign b.count t ≡ false) (fit : E.blo
           checkpoints = length-set b.checkpoints s m.own.slot ∙ long.checkpoints;
         }
 
--- what the sweep of a move that marks asks
-pub marking : (m : Move) (o : Own) (ls : List Reads) (n i : ℕ) → MayMark m o ls n i → m.marks ≡ true → (old new : Shows) → old ≡ shows_of o → new ≡ shows_of m.own
-    → (n ≤ 16) × ListsFit (set ls i m.own.list) n × Shown old × Shown new
-marking m o ls n i h e old new eold enew = (h.count e, h.lists e, rw eold (h.before e), rw enew (h.after e))
-
 -- ---- a turn that may be refused
-pub refusal_ticket : (x : Bool) → x ≡ true → BadTicket ≡ refusing x
-refusal_ticket x q = rw q refl
-
-pub refusal_misfit : (x : Bool) → x ≡ false → Stuck ≡ refusing x
-refusal_misfit x q = rw q refl
-
-pub ruleset refusal_laws = (refusal_ticket, refusal_misfit)
-
-module _ (refused : Bool) where
-  pub refused_index : (t : ℕ) → refused ≡ true → (0 ≡ cond refused 0 (t - 1)) × (0 < 16)
-  refused_index t q = (rw q refl, omega arith)
-
-  pub taken_index : (t i : ℕ) → refused ≡ false → (i ≡ t - 1) × (i < 16) → (i ≡ cond refused 0 (t - 1)) × (i < 16)
-  taken_index t i q h = (rw q h.0, h.1)
-
-  pub refused_step : (j : Program) (s : State) → refused ≡ true → StepsIf refused j s (record { act = StuckAct; state = s })
-  refused_step j s q = record { cells = record { low = λ c e. absurd (let z : ◌≡◌ {A = ℕ} 0 1 = cc in omega arith) }; steps = λ z. not_both (sym z ∙ q) }
-
-  pub taken_step : (j : Program) (s : State) (r : Stepped) → StepsIn (program_of j) s r → StepsIf refused j s r
-  taken_step j s r h = record { cells = steps_cells (program_of j) s r h; steps = λ q. h }
-
-  module _ (w : Word) (o : Own) (Q : Block → ℕ → Type 0) (m : Move) where
-    pub refused_moves : refused ≡ true → m ≡ still w o → MovesIf refused w o Q m
-    refused_moves q e = record { stays = λ z. e; moves = λ z. not_both (sym z ∙ q) }
-
-    pub taken_moves : refused ≡ false → Moves o Q moving m → MovesIf refused w o Q m
-    taken_moves q h = record { stays = λ z. not_both (sym q ∙ z); moves = λ z. h }
+pub taken_step : (refused : Option Word) (j : Program) (s : State) (r : Stepped) → StepsIn (program_of j) s r → StepsIf refused j s r
+taken_step refused j s r h = record { cells = steps_cells (program_of j) s r h; steps = λ q. h }
 
 -- the parts of a refused turn are stored as they were
-pub stored_refused : (b : Block) (t i s : ℕ) (fits : Bool) → fits ≡ E.block_fits limits box (block_of b) → (foreign b.count t || not fits) ≡ true
-    → (own : Own) → own ≡ parts_at b i s → (m : Move) → m ≡ still (refusing (foreign b.count t)) own → (ls : List Reads)
+stored_refused : (b : Block) (t i s : ℕ) (fits : Bool) → fits ≡ E.block_fits limits box (block_of b) → (w : Word) → refusing b.count t fits ≡ Some w
+    → (own : Own) → own ≡ parts_at b i s → (m : Move) → m ≡ still w own → (ls : List Reads)
     → ls ≡ marked_by m.marks (set b.reads i m.own.list) b.count (shows_of own) (shows_of m.own) t → Turns b t (record { word = m.word; block = stored_at b i s m ls })
-stored_refused b t i s fits ef q own eo m em ls el =
-    rw (el, em, eo, stored_still b i s (refusing (foreign b.count t))) (go (foreign b.count t) refl fits ef q)
-  where
-    go : (f : Bool) → foreign b.count t ≡ f → (g : Bool) → g ≡ E.block_fits limits box (block_of b) → (f || not g) ≡ true → Turns b t (record { word = cond f BadTicket Stuck; block = b })
-    go true e g eg z = turn_foreign b t true (sym e) refl
-    go false e false eg z = turn_misfit b t false false (sym e) refl eg refl
-    go false e true eg z = absurd (let w : ◌≡◌ {A = ℕ} 0 1 = cc in omega arith)
+stored_refused b t i s fits ef w q own eo m em ls el = rw (el, em, eo, stored_still b i s w) (turn_refused b t fits ef w q)
 
 -- of a turn: whether it is refused, where its parts stand, the step that its job would take, and what became of the parts
-module _ (b : Block) (t : ℕ) (fits : Bool) (ef : fits ≡ E.block_fits limits box (block_of b)) (refused : Bool) (er : refused ≡ (foreign b.count t || not fits)) where
-  mine_if : refused ≡ false → foreign b.count t ≡ false
-  mine_if q = (not_refused fits b.count t refused er q).0
+module _ (b : Block) (t : ℕ) (fits : Bool) (ef : fits ≡ E.block_fits limits box (block_of b)) (refused : Option Word) (er : refused ≡ refusing b.count t fits) where
+  mine_if : refused ≡ None → foreign b.count t ≡ false
+  mine_if q = (not_refused fits b.count t (sym er ∙ q)).0
 
-  fit_if : refused ≡ false → E.block_fits limits box (block_of b) ≡ true
-  fit_if q = sym ef ∙ (not_refused fits b.count t refused er q).1
+  fit_if : refused ≡ None → E.block_fits limits box (block_of b) ≡ true
+  fit_if q = sym ef ∙ (not_refused fits b.count t (sym er ∙ q)).1
 
-  pub few_if : refused ≡ false → (0 < t) × (t ≤ 16)
+  pub few_if : refused ≡ None → (0 < t) × (t ≤ 16)
   few_if q = few_tickets b t (mine_if q) (fit_if q)
 
-  index_if : (i : ℕ) → i ≡ cond refused 0 (t - 1) → refused ≡ false → i ≡ t - 1
-  index_if i ei q = ei ∙ rw q refl
+  index_own : (i : ℕ) → i ≡ index_if refused t → refused ≡ None → i ≡ t - 1
+  index_own i ei q = ei ∙ rw q refl
 
-  pub standing_if : (i : ℕ) → i ≡ cond refused 0 (t - 1) → refused ≡ false → ((get_or b.states i no_state).place.0 < (get_or b.jobs i no_program).size) × ((get_or b.jobs i no_program).size ≤ LONGEST)
-  standing_if i ei q = standing b t (mine_if q) (fit_if q) i (index_if i ei q)
+  pub standing_if : (i : ℕ) → i ≡ index_if refused t → refused ≡ None → ((get_or b.states i no_state).place.0 < (get_or b.jobs i no_program).size) × ((get_or b.jobs i no_program).size ≤ LONGEST)
+  standing_if i ei q = standing b t (mine_if q) (fit_if q) i (index_own i ei q)
 
-  module _ (long : Long b) (i s k : ℕ) (ei : i ≡ cond refused 0 (t - 1)) (es : s ≡ slot_at i (get_or b.reads i no_reads).size) (ek : k ≡ slot_at i (get_or b.reads i no_reads).mark)
+  module _ (long : Long b) (i s k : ℕ) (ei : i ≡ index_if refused t) (es : s ≡ slot_at i (get_or b.reads i no_reads).size) (ek : k ≡ slot_at i (get_or b.reads i no_reads).mark)
       (own : Own) (around : Around) (eo : own ≡ parts_at b i s) (ea : around ≡ around_of b) where
-    pub ready_if : refused ≡ false → Ready own around t
-    ready_if q = ready b t (mine_if q) (fit_if q) long i s k (index_if i ei q) es ek own around eo ea
+    pub ready_if : refused ≡ None → Ready own around t
+    ready_if q = ready b t (mine_if q) (fit_if q) long i s k (index_own i ei q) es ek own around eo ea
 
-    module _ (step : Stepped) (steps : StepsIf refused (get_or b.jobs i no_program) (get_or b.states i no_state) step) (c : ℕ) (asks : Asks step c) (w : Word) (ew : w ≡ refusing (foreign b.count t))
-        (m : Move) (moves : MovesIf refused w own (AtTurn step around (get_or b.start c 0) (get_or b.checkpoints k no_checkpoint) t) m) where
+    module _ (step : Stepped) (steps : StepsIf refused (get_or b.jobs i no_program) (get_or b.states i no_state) step) (c : ℕ) (asks : Asks step c)
+        (m : Move) (moves : MovesIf refused own (AtTurn step around (get_or b.start c 0) (get_or b.checkpoints k no_checkpoint) t) m) where
       pub may_mark_if : MayMark m own b.reads b.count i
       may_mark_if = record { count = λ e. (at e refused refl).0; lists = λ e. (at e refused refl).1; before = λ e. (at e refused refl).2; after = λ e. (at e refused refl).3 }
         where
-          at : m.marks ≡ true → (x : Bool) → refused ≡ x → (b.count ≤ 16) × ListsFit (set b.reads i m.own.list) b.count × Shown (shows_of own) × Shown (shows_of m.own)
-          at e true q = let quiet : m.marks ≡ false = rw (moves.stays q) refl in not_both (sym quiet ∙ e)
-          at e false q = may_mark b t (mine_if q) (fit_if q) long i s k (index_if i ei q) es ek own around eo ea step (steps.steps q) c asks m (moves.moves q) e _ _ refl refl
+          at : m.marks ≡ true → (x : Option Word) → refused ≡ x → (b.count ≤ 16) × ListsFit (set b.reads i m.own.list) b.count × Shown (shows_of own) × Shown (shows_of m.own)
+          at e (Some w) q = let quiet : m.marks ≡ false = rw (moves.stays w q) refl in not_both (sym quiet ∙ e)
+          at e None q = may_mark b t (mine_if q) (fit_if q) long i s k (index_own i ei q) es ek own around eo ea step (steps.steps q) c asks m (moves.moves q) e _ _ refl refl
 
       turned_if : (ls : List Reads) → ls ≡ marked_by m.marks (set b.reads i m.own.list) b.count (shows_of own) (shows_of m.own) t
           → Turns b t (record { word = m.word; block = stored_at b i s m ls })
       turned_if ls el = go refused refl
         where
-          go : (x : Bool) → refused ≡ x → Turns b t (record { word = m.word; block = stored_at b i s m ls })
-          go true q = stored_refused b t i s fits ef (sym er ∙ q) own eo m (moves.stays q ∙ ap (λ (x : Word). still x own) ew) ls el
-          go false q = stored_turn b t (mine_if q) (fit_if q) long i s k (index_if i ei q) es ek own around eo ea step (steps.steps q) c asks m (moves.moves q) ls el
+          go : (x : Option Word) → refused ≡ x → Turns b t (record { word = m.word; block = stored_at b i s m ls })
+          go (Some w) q = stored_refused b t i s fits ef w (sym er ∙ q) own eo m (moves.stays w q) ls el
+          go None q = stored_turn b t (mine_if q) (fit_if q) long i s k (index_own i ei q) es ek own around eo ea step (steps.steps q) c asks m (moves.moves q) ls el
 
       pub changes_if : i < 16 → s < 128 → (r : Change) → r ≡ change_by i s m (marked_by m.marks (set b.reads i m.own.list) b.count (shows_of own) (shows_of m.own) t) → Changes b t r
       changes_if li ls r e = rw e (record { index = rw (← ef, ← er) ei; slot = rw (← ef, ← er, ← ei) es; inside = li; within = ls; turns = turned_if _ refl })

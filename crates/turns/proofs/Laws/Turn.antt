@@ -1,12 +1,13 @@
 -- The whole turn: 14, then 20, and else the rules, on a block that offers all that they take for granted.
 use mathlib.Core.Path.{◌≡◌, refl, ap, sym, ◌∙◌}
-use mathlib.Core.Bool.{Bool, true, false, not}
+use mathlib.Core.Bool.{Bool, true, false, cond}
+use Rattle.std.specs.Prelude.{None, Some}
+use Rattle.std.proofs.lemmas.Option.{none-some, same_Some}
 use mathlib.Core.Logic.{◌⊎◌, inl, inr}
 use Prim.Native.Nat.{ℕ, ◌-◌, ◌≤◌, ◌<◌}
 use native.Mathlib.Omega.{arith}
 use native.Mathlib.Decide.{dec_lt}
 use lib.ListN.{length, get_or}
-use borrow.Author.Tests.{not-true}
 use Rattle.theory.specs.Lists.{length_tab}
 use Rattle.theory.specs.Word as W
 use Rattle.theory.specs.Engine as E
@@ -18,6 +19,8 @@ use Rattle.rules.specs.Block.{job_of, block_of}
 use Rattle.rules.specs.Fitting.{count_fit, block_fit}
 use Rattle.rules.specs.Turn.{word_of, leaves, jobs, cells, moving, foreign, Did, Keeps, Turns, Whole}
 use Rattle.rules.specs.declared.block.Block.{Block}
+use Rattle.turns.specs.Change.{refusing}
+use Rattle.words.specs.declared.word.Word.{Word}
 use Rattle.words.specs.declared.word.Word.TheVariants.{BadTicket, Stuck}
 use Rattle.rules.specs.declared.block.Turned.{Turned}
 use Rattle.rules.proofs.Laws.Reading.{job_at_lem}
@@ -60,21 +63,30 @@ keeps_on b c r g h = record {
     on k l (yes m) = h.other k m
     on k l (no m) = rw (h.final k (omega arith)) l
 
-module _ (b : Block) (t : ℕ) where
-  pub turn_foreign : (x : Bool) → x ≡ foreign b.count t → x ≡ true → Turns b t (record { word = BadTicket; block = b })
-  unfolding E.turn word_of W.refusal
-  turn_foreign x e q = record { word = rw (job_count_lem b, ← e, q) refl; refusal = rw (job_count_lem b, ← e, q) refl; block = rw (job_count_lem b, ← e, q) refl; keeps = keeps_same b; left = λ z. refl }
+-- ---- whether it is refused
+pub not_refused : (fits : Bool) (n t : ℕ) → refusing n t fits ≡ None → (foreign n t ≡ false) × (fits ≡ true)
+not_refused fits n t q = go (foreign n t) fits q
+  where
+    go : (f g : Bool) → cond f (Some BadTicket) (cond g None (Some Stuck)) ≡ None → (f ≡ false) × (g ≡ true)
+    go false true z = (refl, refl)
+    go false false z = absurd (none-some Stuck (sym z))
+    go true g z = absurd (none-some BadTicket (sym z))
 
-  pub turn_misfit : (x fits : Bool) → x ≡ foreign b.count t → x ≡ false → fits ≡ E.block_fits limits box (block_of b) → not fits ≡ true → Turns b t (record { word = Stuck; block = b })
+module _ (b : Block) (t : ℕ) where
+  pub turn_refused : (fits : Bool) → fits ≡ E.block_fits limits box (block_of b) → (w : Word) → refusing b.count t fits ≡ Some w → Turns b t (record { word = w; block = b })
   unfolding E.turn word_of W.refusal
-  turn_misfit x fits ex qx ef q =
-      record {
-        word = rw (job_count_lem b, ← ex, qx, ← ef, not-true fits q) refl;
-        refusal = rw (job_count_lem b, ← ex, qx, ← ef, not-true fits q) refl;
-        block = rw (job_count_lem b, ← ex, qx, ← ef, not-true fits q) refl;
-        keeps = keeps_same b;
-        left = λ z. refl;
-      }
+  turn_refused fits ef w q = go (foreign b.count t) refl fits refl q
+    where
+      told : (v : Word) → Some v ≡ Some w → Turns b t (record { word = v; block = b }) → Turns b t (record { word = w; block = b })
+      told v z h = rw (← same_Some v w z) h
+
+      go : (f : Bool) → foreign b.count t ≡ f → (g : Bool) → fits ≡ g → cond f (Some BadTicket) (cond g None (Some Stuck)) ≡ Some w → Turns b t (record { word = w; block = b })
+      go true e g eg z =
+          told BadTicket z (record { word = rw (job_count_lem b, e) refl; refusal = rw (job_count_lem b, e) refl; block = rw (job_count_lem b, e) refl; keeps = keeps_same b; left = λ x. refl })
+      go false e false eg z =
+          let misfit = sym ef ∙ eg in
+          told Stuck z (record { word = rw (job_count_lem b, e, misfit) refl; refusal = rw (job_count_lem b, e, misfit) refl; block = rw (job_count_lem b, e, misfit) refl; keeps = keeps_same b; left = λ x. refl })
+      go false e true eg z = absurd (none-some w z)
 
   took : (m : E.Moved Running) → E.turn limits box (block_of b) t ≡ E.move_to limits box (block_of b) (t - 1) m.word m.job → (r : Turned) → Did b (t - 1) m r → Keeps b r.block → Turns b t r
   took m e r d k = record {

@@ -1,20 +1,23 @@
 -- A refusal returns with nothing changed;
 -- an accepted paper's turns settle the serial run of its first f jobs.
-use borrow.Author.Rules.{rules}
-use Rattle.demands.proofs.Laws.Finish.{finish_laws}
+use Rattle.demands.proofs.Laws.Finish.{finish_table, finish_refused, finish_short, finish_settles, finish_ran}
 use Rattle.demands.proofs.finish.finish.Goals as goal
 
 pub returns-then-table : goal.returns-then-table
-returns-then-table c = search (finish_laws, rules)
+returns-then-table c = finish_table _ _ _ _ _ c.if-table.true
 
-pub settle_turned-requires : goal.settle_turned-requires
-settle_turned-requires c = search (finish_laws, rules)
+pub returns-in_err-opened : goal.returns-in_err-opened
+returns-in_err-opened c = finish_refused _ _ _ _ _ c.if-table.false _ c.open-opened.ensures _ _ c.in_err-opened.was c.from_residual.ensures.1
 
-pub returns-in-Accepted : goal.returns-in-Accepted
-returns-in-Accepted c = search (finish_laws, rules)
+pub returns-in_err-taken : goal.returns-in_err-taken
+returns-in_err-taken c =
+    finish_short _ _ _ _ _ c.if-table.false _ c.open-opened.ensures c.in_ok-opened.was _ _ c.take_turns-taken.ensures _ _ c.in_err-taken.was c.from_residual-in_err-taken.ensures.1
 
-pub returns-in-WrongTable : goal.returns-in-WrongTable
-returns-in-WrongTable c = search (finish_laws, rules)
+pub unwrap-f-requires : goal.unwrap-f-requires
+unwrap-f-requires c =
+    finish_settles _ _ _ _ _ c.if-table.false _ c.open-opened.ensures c.in_ok-opened.was _ _ c.take_turns-taken.ensures c.in_ok-taken.was _ _ c.settled_table.ensures
 
-pub returns-in-Refused : goal.returns-in-Refused
-returns-in-Refused c = search (finish_laws, rules)
+pub returns : goal.returns
+returns c =
+    finish_ran _ _ _ _ _ c.if-table.false _ c.open-opened.ensures c.in_ok-opened.was _ _ c.take_turns-taken.ensures c.in_ok-taken.was _ _ c.settled_table.ensures
+    _ c.unwrap-f.ensures

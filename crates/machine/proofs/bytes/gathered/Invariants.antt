@@ -6,6 +6,3 @@ use Rattle.machine.proofs.bytes.gathered.Given as goal
 
 abbrev pub invariant-loop-n : goal.invariant-loop-n
 invariant-loop-n l = (l.n ≤ length l.bytes) × (length l.bytes ≤ 8) × (l.number ≡ little (drop l.n l.bytes)) × (l.number < 256 ^ (length l.bytes - l.n))
-
-abbrev pub decreases-loop-n : goal.decreases-loop-n
-decreases-loop-n l = l.n

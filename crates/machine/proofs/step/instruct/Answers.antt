@@ -1,20 +1,12 @@
 -- An instruction that is not ready is stuck and changes nothing;
--- one that is ready is able, and its three parts make the definition's state.
-use Rattle.std.proofs.Common.{rules}
-use Rattle.machine.proofs.Laws.Step.{step_laws}
+-- one that is ready makes the three parts of the definition's state.
+use Rattle.machine.proofs.Laws.Step.{step_stuck, step_done}
 use Rattle.machine.proofs.step.instruct.Goals as goal
 
-pub returns-then-not-is_ready : goal.returns-then-not-is_ready
-returns-then-not-is_ready c = search (step_laws, rules)
-
-pub asks-act-requires : goal.asks-act-requires
-asks-act-requires c = search (step_laws, rules)
-
-pub place_after-place-requires : goal.place_after-place-requires
-place_after-place-requires c = search (step_laws, rules)
-
-pub stack_after-stack-requires : goal.stack_after-stack-requires
-stack_after-stack-requires c = search (step_laws, rules)
+pub returns-in_default : goal.returns-in_default
+returns-in_default c = step_stuck c.args.size c.args.i c.args.s c.in_default.ensures
 
 pub returns : goal.returns
-returns c = search (step_laws, rules)
+returns c =
+    let same = c.in-Some.ensures {u = tt} in
+    step_done c.args.size c.args.i c.args.s c.in-Some.ready.instruction c.in-Some.ready.state same.0 same.1 same.2 c.asks.result c.place_after.result c.stack_after.result c.asks.ensures c.place_after.ensures c.stack_after.ensures

@@ -1,17 +1,22 @@
--- Each test stands as in the definition,
+-- Each range of codes is a case of the definition,
 -- and each return is its case.
 use borrow.Author.Rules.{rules}
-use Rattle.rules.proofs.Laws.Code.{by_code_laws}
+use borrow.Author.Tests.{tests}
+use Rattle.rules.specs.Sizes.{by_code}
 use Rattle.rules.proofs.sizes.by_code.Goals as goal
 
-pub returns-then-code-ge-JUMP : goal.returns-then-code-ge-JUMP
-returns-then-code-ge-JUMP c = search (by_code_laws, rules)
+pub returns-in-4-to-5 : goal.returns-in-4-to-5
+unfolding by_code
+returns-in-4-to-5 c = search (rules, tests)
 
-pub returns-then-code-gt-SWAP : goal.returns-then-code-gt-SWAP
-returns-then-code-gt-SWAP c = search (by_code_laws, rules)
+pub returns-in-12-to-255 : goal.returns-in-12-to-255
+unfolding by_code
+returns-in-12-to-255 c = search (rules, tests)
 
-pub returns-then-code-ge-DUP : goal.returns-then-code-ge-DUP
-returns-then-code-ge-DUP c = search (by_code_laws, rules)
+pub returns-in_default : goal.returns-in_default
+unfolding by_code
+returns-in_default c = search (rules, tests)
 
-pub returns : goal.returns
-returns c = search (by_code_laws, rules)
+pub returns-in_default-2 : goal.returns-in_default-2
+unfolding by_code
+returns-in_default-2 c = search (rules, tests)

@@ -1,11 +1,15 @@
 -- 255 stands for no mark, which fits;
 -- any other mark is tested as in the definition.
 use borrow.Author.Rules.{rules}
-use Rattle.rules.proofs.Laws.Sizes.{mark_laws}
+use borrow.Author.Tests.{tests}
+use Rattle.rules.specs.View.{mark_of}
+use Rattle.rules.specs.Sizes.{mark_within}
 use Rattle.rules.proofs.sizes.mark_fits.Goals as goal
 
-pub returns-then-mark-eq-UNMARKED : goal.returns-then-mark-eq-UNMARKED
-returns-then-mark-eq-UNMARKED c = search (mark_laws, rules)
+pub returns-then-rs : goal.returns-then-rs
+unfolding mark_within mark_of
+returns-then-rs c = search (rules, tests)
 
-pub returns : goal.returns
-returns c = search (mark_laws, rules)
+pub returns-else-rs : goal.returns-else-rs
+unfolding mark_within mark_of
+returns-else-rs c = search (rules, tests)

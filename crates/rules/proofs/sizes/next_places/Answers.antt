@@ -1,11 +1,14 @@
 -- Each place gets the number of the next,
 -- which stays.
-use borrow.Author.Rules.{rules}
-use Rattle.rules.proofs.Laws.Code.{next_start, next_end}
+use Rattle.std.proofs.Common.{suc, arith, add-one}
+use Rattle.rules.proofs.Laws.Filled.{fill_start, fill_on, fill_end}
 use Rattle.rules.proofs.sizes.next_places.Goals as goal
 
 pub loop-k-init : goal.loop-k-init
-loop-k-init c = next_start
+loop-k-init c = fill_start 0 suc 64
+
+pub loop-k-preserved : goal.loop-k-preserved
+loop-k-preserved c = rw c.from.ensures (fill_on 0 suc 64 _ _ c.loop-k.invariant c.loop-k-test.true _ (add-one _))
 
 pub returns : goal.returns
-returns c = next_end _ _ c.loop-k.invariant (search (c.loop-k-test.false, rules))
+returns c = fill_end 0 suc 64 _ _ c.loop-k.invariant (λ i m n. absurd (omega arith))

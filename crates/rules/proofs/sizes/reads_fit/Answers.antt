@@ -5,8 +5,8 @@ use Rattle.rules.proofs.Laws.Arrays.{array_laws}
 use Rattle.rules.proofs.Laws.Sizes.{reads_laws}
 use Rattle.rules.proofs.sizes.reads_fit.Goals as goal
 
-pub returns-then-n-gt-FEW : goal.returns-then-n-gt-FEW
-returns-then-n-gt-FEW c = search (reads_laws, array_laws, rules)
+pub returns-then-rs-gt-FEW : goal.returns-then-rs-gt-FEW
+returns-then-rs-gt-FEW c = search (reads_laws, array_laws, rules)
 
 pub loop-i-init : goal.loop-i-init
 loop-i-init c = search (reads_laws, array_laws, rules)

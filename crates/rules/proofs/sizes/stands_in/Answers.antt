@@ -1,11 +1,14 @@
--- The place is tested first, as in the definition;
--- then the stack's height decides.
+-- The test of the place, then that of the height,
+-- as in the definition.
 use borrow.Author.Rules.{rules}
-use Rattle.rules.proofs.Laws.Sizes.{stands_laws}
+use borrow.Author.Tests.{tests}
+use Rattle.rules.specs.Sizes.{stands_in}
 use Rattle.rules.proofs.sizes.stands_in.Goals as goal
 
-pub returns-then-size-place : goal.returns-then-size-place
-returns-then-size-place c = search (stands_laws, rules)
+pub returns-then-s-size : goal.returns-then-s-size
+unfolding stands_in
+returns-then-s-size c = search (rules, tests)
 
-pub returns : goal.returns
-returns c = search (stands_laws, rules)
+pub returns-else-s-size : goal.returns-else-s-size
+unfolding stands_in
+returns-else-s-size c = search (rules, tests)

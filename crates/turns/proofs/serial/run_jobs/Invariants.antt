@@ -1,12 +1,13 @@
--- The table is that of the first k jobs,
--- and job k alone on it makes that of one more.
-use Prim.Native.Nat.{◌≤◌, ◌-◌}
+-- The table is that of the jobs so far,
+-- and the next one alone on it makes that of one more.
+use mathlib.Core.Path.{◌≡◌}
+use lib.ListN.{length}
+use Rattle.theory.specs.Serial.{serial}
+use Rattle.rules.specs.Box.{box}
 use Rattle.rules.specs.Steps.{AllPass}
-use Rattle.turns.specs.Alone.{RunsAll}
+use Rattle.turns.specs.SerialRun.{cells_of}
+use Rattle.turns.specs.Alone.{starts}
 use Rattle.turns.proofs.serial.run_jobs.Given as goal
 
-abbrev pub invariant-loop-k : goal.invariant-loop-k
-invariant-loop-k l = (l.k ≤ l.count) × (l.count ≤ 16) × AllPass l.jobs l.count × RunsAll l.jobs l.k l.initial.table l.table
-
-abbrev pub decreases-loop-k : goal.decreases-loop-k
-decreases-loop-k l = l.count - l.k
+abbrev pub invariant-loop-job : goal.invariant-loop-job
+invariant-loop-job l = AllPass l.jobs (length l.jobs) × (length l.table ≡ 256) × (cells_of l.table ≡ serial box (cells_of l.initial.table) (starts l.jobs) l.job-index)

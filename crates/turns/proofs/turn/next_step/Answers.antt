@@ -3,5 +3,5 @@
 use Rattle.turns.proofs.Laws.Store.{taken_step}
 use Rattle.turns.proofs.turn.next_step.Goals as goal
 
-pub returns : goal.returns
-returns c = taken_step _ _ _ _ c.program_step.ensures
+pub returns-in-None : goal.returns-in-None
+returns-in-None c = taken_step _ _ _ _ c.step.ensures

@@ -1,2 +1,0 @@
--- Up to 8 bytes the number is gathered;
--- past that the answer is 0.

@@ -1,8 +1,0 @@
--- The entry k below the top stands at height - 1 - k;
--- the array has 16 entries and the height is at most that.
-use Rattle.std.proofs.Common.{rules}
-use Rattle.machine.proofs.Laws.Stack.{stack_laws}
-use Rattle.machine.proofs.step.entry.Goals as goal
-
-pub returns : goal.returns
-returns c = search (stack_laws, rules)

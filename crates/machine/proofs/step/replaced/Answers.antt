@@ -1,8 +1,0 @@
--- The new entry stands just above those that stay;
--- the height counts it.
-use Rattle.std.proofs.Common.{rules}
-use Rattle.machine.proofs.Laws.Stack.{stack_laws}
-use Rattle.machine.proofs.step.replaced.Goals as goal
-
-pub returns : goal.returns
-returns c = search (stack_laws, rules)

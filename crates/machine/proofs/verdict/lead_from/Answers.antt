@@ -1,2 +1,0 @@
--- The height after is brought to the next place, and then to the jump's;
--- both are in the job because the instruction passed 5, 6 and 7.

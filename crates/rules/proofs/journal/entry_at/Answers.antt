@@ -1,8 +1,0 @@
--- An entry of the array before the count
--- is that entry of the list.
-use borrow.Author.Rules.{rules}
-use Rattle.rules.proofs.Laws.Journal.{entry_laws}
-use Rattle.rules.proofs.journal.entry_at.Goals as goal
-
-pub returns : goal.returns
-returns c = search (entry_laws, rules)

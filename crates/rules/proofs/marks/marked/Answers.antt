@@ -1,2 +1,0 @@
--- Only the mark changes,
--- to the one that the reads give.

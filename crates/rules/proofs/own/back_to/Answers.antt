@@ -1,2 +1,0 @@
--- The journal, the list and the versions are cut where the checkpoint stands,
--- and the mark is gone.

@@ -1,8 +1,0 @@
--- A count of 0
--- stands for the empty list.
-use borrow.Author.Rules.{rules}
-use Rattle.rules.proofs.Laws.Versions.{add_laws}
-use Rattle.rules.proofs.versions.no_versions.Goals as goal
-
-pub returns : goal.returns
-returns c = search (add_laws, rules)
