@@ -44,12 +44,7 @@ pub(crate) fn with_size(mut b: Block, k: usize, size: u8) -> Block
 pub(crate) fn with_stops(mut b: Block, k: usize, size: u8) -> Block
     requires { k < JOBS }
 {
-    b.jobs[k] = Program {
-        codes: [0; Job::LONGEST as usize],
-        arguments: [0; Job::LONGEST as usize],
-        pushed: [0; Job::LONGEST as usize],
-        size,
-    };
+    b.jobs[k] = Program::stops(size);
     b
 }
 

@@ -5,7 +5,7 @@ use crate::altered::{
     with_version, with_versions,
 };
 use crate::tell::tell;
-use rules::block::Block;
+use rules::block::{Block, Reads};
 use std::io;
 use std::io::Write;
 
@@ -118,8 +118,13 @@ fn try_marks<O: Write>(out: &mut O, b: Block) -> io::Result<()> {
         with_mark(b, 0, 0),
         1,
     )?;
-    tell(out, "no mark", with_mark(b, 1, 255), 2)?;
-    tell(out, "no mark and no read", with_mark(none, 1, 255), 2)
+    tell(out, "no mark", with_mark(b, 1, Reads::UNMARKED), 2)?;
+    tell(
+        out,
+        "no mark and no read",
+        with_mark(none, 1, Reads::UNMARKED),
+        2,
+    )
 }
 
 // A checkpoint is the job as it was before its read, so it holds none but the reads and entries before it.

@@ -6,7 +6,7 @@ use crate::altered::{
 };
 use crate::tell::tell;
 use machine::instruction::Instruction;
-use rules::block::Block;
+use rules::block::{Block, Reads};
 use std::io;
 use std::io::Write;
 
@@ -117,19 +117,19 @@ fn try_at_rest<O: Write>(out: &mut O, b: Block) -> io::Result<()> {
     tell(
         out,
         "marked at WRITE with a stack of 0",
-        with_status(marked, 1, 0),
+        with_status(marked, 1, Block::RUNNING),
         2,
     )?;
     tell(
         out,
         "ended at WRITE with a stack of 0",
-        with_mark(marked, 1, 255),
+        with_mark(marked, 1, Reads::UNMARKED),
         2,
     )?;
     tell(
         out,
         "running at WRITE with a stack of 0",
-        with_status(with_mark(marked, 1, 255), 1, 0),
+        with_status(with_mark(marked, 1, Reads::UNMARKED), 1, Block::RUNNING),
         2,
     )
 }

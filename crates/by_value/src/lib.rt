@@ -14,7 +14,7 @@ const WRONG_LENGTH: u32 = 15;
 // Opens a paper and takes the turns of a list of tickets, a byte for each. An opening that is refused answers as garvolish_open
 // does; then 15 if there is not a byte for each. The bytes are then as they were.
 #[unsafe(no_mangle)]
-#[tactic(auto, using(turns::specs::Going::all_written), unfolding(crate::specs::Hands::if_opened, turns::specs::Many::if_long))]
+#[tactic(auto, using(turns::specs::Going::all_written, crate::proofs::Refused::opened_unless), unfolding(crate::specs::Hands::if_opened, turns::specs::Many::if_long))]
 pub extern "C" fn garvolish_by_value(
     start: &[u64],
     paper: &[u8],
@@ -24,9 +24,8 @@ pub extern "C" fn garvolish_by_value(
     ensures { HandsOver start.now paper.now tickets.now words.old result words.new }
 {
     let opened = open(start, paper);
-    let number = number_of_opening(opened.answer);
-    if number != 0 {
-        return number;
+    if opened.answer.is_err() {
+        return number_of_opening(opened.answer);
     }
     if words.len() != tickets.len() {
         return WRONG_LENGTH;

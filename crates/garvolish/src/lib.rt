@@ -7,9 +7,13 @@ ghost use Rattle.std.specs.Prelude.{◌≡◌};
 ghost use Rattle.garvolish.specs.Numbers.{TurnsTo, TakesTo, OpensTo, SettlesTo, ServesTo};
 ghost use Rattle.garvolish.specs.Version.{VERSION, SIZE};
 
-use crate::number::{number_of_word, open_number, serial_number, settled_number, take_number};
+use crate::number::{
+    number_of_opening, number_of_taking, number_of_word, serial_number, settled_number,
+};
 use machine::counts::Ticket;
 use rules::block::Block;
+use turns::many::take_turns;
+use turns::open::open;
 use turns::turn::change_of;
 
 const MAJOR: u8 = 0;
@@ -22,9 +26,9 @@ const PATCH: u8 = 0;
 pub fn garvolish_open(block: &mut Block, start: &[u64], paper: &[u8]) -> u32
     ensures { OpensTo start.now paper.now result block.new }
 {
-    let r = open_number(start, paper);
-    *block = r.block;
-    r.number
+    let opened = open(start, paper);
+    *block = opened.block;
+    number_of_opening(opened.answer)
 }
 
 // One turn of a ticket, in the caller's own block: what the turn changes is stored where it stands.
@@ -46,9 +50,9 @@ pub fn garvolish_turn(block: &mut Block, ticket: u8) -> u32
 pub fn garvolish_take_turns(block: &mut Block, tickets: &[u8], words: &mut [u8]) -> u32
     ensures { TakesTo block.old tickets.now words.old result block.new words.new }
 {
-    let r = take_number(*block, tickets, words);
-    *block = r.block;
-    r.number
+    let taken = take_turns(*block, tickets, words);
+    *block = taken.block;
+    number_of_taking(taken.answer)
 }
 
 // The settled table, written whole to the lent table, and f; or a refusal, and the table untouched.

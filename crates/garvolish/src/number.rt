@@ -4,33 +4,24 @@ ghost use Rattle.machine.specs.View.{number};
 ghost use Rattle.turns.specs.Many.{taking_of};
 ghost use Rattle.turns.specs.Open.{opening_of};
 ghost use Rattle.rules.specs.Turn.{word_of};
-ghost use Rattle.garvolish.specs.Numbers.{word_number, packed, TakesTo, OpensTo, SettlesTo, ServesTo};
+ghost use Rattle.garvolish.specs.Numbers.{word_number, packed, SettlesTo, ServesTo};
 
 use machine::paper::Refusal;
 use rules::block::Block;
-use turns::many::{WrongLength, take_turns};
-use turns::open::{OpenRefusal, open};
+use turns::many::WrongLength;
+use turns::open::OpenRefusal;
 use turns::serial::run_serially;
 use turns::settled::{SettleRefusal, settled_table};
 use words::word::Word;
 
-// An answer, and the block after it.
-#[derive(Clone, Copy)]
-pub(crate) struct Numbered {
-    pub block: Block,
-    pub number: u32,
-}
-
 // A refusal's number, and any other word's byte.
-#[tactic(auto, unfolding(crate::specs::Numbers::word_number))]
+#[tactic(auto, unfolding(crate::specs::Numbers::word_number, theory::specs::Word::refusal, words::specs::Words::word_of))]
 pub(crate) fn number_of_word(word: Word) -> u32
     ensures { result ≡ word_number (word_of word) }
 {
-    let refused = word.refusal();
-    if refused == 0 {
-        u32::from(word.byte())
-    } else {
-        u32::from(refused)
+    match word {
+        Word::BadTicket | Word::Stuck => u32::from(word.refusal()),
+        _ => u32::from(word.byte()),
     }
 }
 
@@ -58,33 +49,14 @@ pub fn number_of_opening(answer: Result<(), OpenRefusal>) -> u32
     }
 }
 
+// 15 where there is not a byte for each ticket; 0 where the turns were taken.
 #[tactic(auto, unfolding(turns::specs::Many::taking_of))]
-fn number_of_taking(answer: Result<(), WrongLength>) -> u32
+pub(crate) fn number_of_taking(answer: Result<(), WrongLength>) -> u32
     ensures { result ≡ taking_of answer }
 {
     match answer {
         Ok(()) => 0,
         Err(WrongLength) => 15,
-    }
-}
-
-pub(crate) fn open_number(start: &[u64], paper: &[u8]) -> Numbered
-    ensures { OpensTo start.now paper.now result.number result.block }
-{
-    let opened = open(start, paper);
-    Numbered {
-        block: opened.block,
-        number: number_of_opening(opened.answer),
-    }
-}
-
-pub(crate) fn take_number(b: Block, tickets: &[u8], words: &mut [u8]) -> Numbered
-    ensures { TakesTo b tickets.now words.old result.number result.block words.new }
-{
-    let taken = take_turns(b, tickets, words);
-    Numbered {
-        block: taken.block,
-        number: number_of_taking(taken.answer),
     }
 }
 

@@ -1,8 +1,10 @@
 // An instruction, and what its code and operand tell of it by themselves.
-ghost use Rattle.std.specs.Prelude.{◌≡◌, nat_le, slice_index, slice_index_or};
+ghost use Rattle.std.specs.Prelude.{◌≡◌, ◌&&◌, nat_le, slice_index, slice_index_or};
+ghost use Rattle.machine.specs.Limits.{ROOM};
 ghost use Rattle.machine.specs.Instruction.{columns, column_number, known, fits, leads_on, jumps, need, after};
 
 use crate::counts::Place;
+use crate::job::Job;
 
 #[repr(C)]
 #[derive(Clone, Copy, PartialEq, Eq)]
@@ -155,5 +157,12 @@ impl Instruction {
         ensures { result ≡ after self height }
     {
         (u16::from(height) + u16::from(self.row(&CHANGES, 0))).saturating_sub(2)
+    }
+
+    // Whether a stack of this height has the entries that it needs, and room for what is left.
+    pub(crate) fn suits(self, height: u8) -> bool
+        ensures { result ≡ (nat_le (need self) height && nat_le (after self height) ROOM) }
+    {
+        self.finds(height) && self.leaves(height) <= u16::from(Job::ROOM)
     }
 }

@@ -63,7 +63,7 @@ pub fn size_of_field(rest: &[u8]) -> usize
 
 // What follows the field that starts here.
 #[tactic(auto, using(std::proofs::lemmas::List::take_rest), unfolding(crate::specs::Paper::later))]
-fn after_field(rest: &[u8]) -> &[u8]
+pub fn after_field(rest: &[u8]) -> &[u8]
     requires { 3 + size rest.now ≤ length rest.now }
     ensures { result.now ≡ later rest.now }
 {
@@ -104,10 +104,7 @@ fn check_frame(rest: &[u8], count: u8) -> Check
 {
     let place = Place(0);
     if rest.len() < Field::HEAD {
-        return Err(Flaw {
-            fault: Fault::Head,
-            place,
-        });
+        return Err(Fault::Head.at(place));
     }
     let size = size_of_field(rest);
     let fault = if rest.len() - Field::HEAD < size {
@@ -121,7 +118,7 @@ fn check_frame(rest: &[u8], count: u8) -> Check
     } else {
         return Ok(());
     };
-    Err(Flaw { fault, place })
+    Err(fault.at(place))
 }
 
 fn empty_job() -> Job {

@@ -161,7 +161,7 @@ fn is_placed(i: Instruction, size: u8, place: Place) -> bool
 fn is_enough(i: Instruction, height: u8) -> bool
     ensures { result ≡ suffices ROOM i height }
 {
-    height <= Job::ROOM && i.finds(height) && i.leaves(height) <= u16::from(Job::ROOM)
+    height <= Job::ROOM && i.suits(height)
 }
 
 // One instruction of a job of so many: nothing changes where it is stuck.

@@ -33,6 +33,13 @@ impl Fault {
     {
         self as u8
     }
+
+    // Found at this place.
+    pub(crate) fn at(self, place: Place) -> Flaw
+        ensures { result ≡ record { fault = self; place = place } }
+    {
+        Flaw { fault: self, place }
+    }
 }
 
 // A fault, and the place where it was found.
@@ -72,24 +79,15 @@ fn check_form(i: Instruction, place: Place, size: u8, reads: u8, writes: u8) -> 
     ensures { finding_of result ≡ form_of FEW size place.0 i reads writes }
 {
     if !i.known() {
-        return Err(Flaw {
-            fault: Fault::Code,
-            place,
-        });
+        return Err(Fault::Code.at(place));
     }
     if !i.fits(place, size) {
-        return Err(Flaw {
-            fault: Fault::Operand,
-            place,
-        });
+        return Err(Fault::Operand.at(place));
     }
     if i.code == Instruction::READ && Job::FEW <= reads
         || i.code == Instruction::WRITE && Job::FEW <= writes
     {
-        return Err(Flaw {
-            fault: Fault::TooMany,
-            place,
-        });
+        return Err(Fault::TooMany.at(place));
     }
     Ok(())
 }
@@ -100,10 +98,7 @@ fn check_led(place: Place, m: Met) -> Check
     ensures { finding_of result ≡ led_of place.0 m }
 {
     match m {
-        Met::Nobody => Err(Flaw {
-            fault: Fault::NotLed,
-            place,
-        }),
+        Met::Nobody => Err(Fault::NotLed.at(place)),
         Met::Height(_) | Met::Clash(_) => Ok(()),
     }
 }
@@ -115,10 +110,7 @@ fn check_meeting(place: Place, m: Met) -> Check
 {
     match m {
         Met::Nobody | Met::Height(_) => Ok(()),
-        Met::Clash(_) => Err(Flaw {
-            fault: Fault::Heights,
-            place,
-        }),
+        Met::Clash(_) => Err(Fault::Heights.at(place)),
     }
 }
 
@@ -127,13 +119,10 @@ fn check_meeting(place: Place, m: Met) -> Check
 fn check_found(i: Instruction, place: Place, h: u8) -> Check
     ensures { finding_of result ≡ found_of ROOM i place.0 h }
 {
-    if i.finds(h) && i.leaves(h) <= u16::from(Job::ROOM) {
+    if i.suits(h) {
         Ok(())
     } else {
-        Err(Flaw {
-            fault: Fault::Entries,
-            place,
-        })
+        Err(Fault::Entries.at(place))
     }
 }
 
@@ -165,13 +154,11 @@ fn check_entries(i: Instruction, place: Place, m: Met) -> Check
 }
 
 // What a height brought to a place makes of what is known.
-fn bring(known: &mut [Met; Job::LONGEST as usize], leads: bool, t: u64, h: u8)
-    requires { leads ≡ true → t < LONGEST }
-    ensures { known.new ≡ bring leads t h known.old }
+fn bring(known: &mut [Met; Job::LONGEST as usize], t: u64, h: u8)
+    requires { t < LONGEST }
+    ensures { known.new ≡ bring true t h known.old }
 {
-    if leads {
-        known[t as usize] = known[t as usize].with(h);
-    }
+    known[t as usize] = known[t as usize].with(h);
 }
 
 // What an instruction that passed at its place brings to the places that it leads to.
@@ -181,8 +168,12 @@ fn lead_from(i: Instruction, place: Place, m: Met, known: &mut [Met; Job::LONGES
 {
     if let Met::Height(h) = m {
         let after = i.leaves(h) as u8;
-        bring(known, i.leads_on(), u64::from(place.0) + 1, after);
-        bring(known, i.jumps(), i.operand, after);
+        if i.leads_on() {
+            bring(known, u64::from(place.0) + 1, after);
+        }
+        if i.jumps() {
+            bring(known, i.operand, after);
+        }
     }
 }
 
@@ -218,10 +209,7 @@ impl Code<'_> {
         ensures { finding_of result ≡ end_of self.entry.list.now }
     {
         match self.list.last() {
-            Some(i) if i.leads_on() => Err(Flaw {
-                fault: Fault::LeadsOn,
-                place: Place((self.list.len() - 1) as u8),
-            }),
+            Some(i) if i.leads_on() => Err(Fault::LeadsOn.at(Place((self.list.len() - 1) as u8))),
             _ => Ok(()),
         }
     }
@@ -265,10 +253,7 @@ pub fn check_job(j: Job) -> Check
     ensures { finding_of result ≡ job_verdict (code_of j) }
 {
     if j.size == 0 || Job::LONGEST < j.size {
-        return Err(Flaw {
-            fault: Fault::Length,
-            place: Place(0),
-        });
+        return Err(Fault::Length.at(Place(0)));
     }
     let code = Code {
         list: &j.code[..usize::from(j.size)],

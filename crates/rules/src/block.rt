@@ -1,4 +1,4 @@
-// A block in work, by value and in small parts, so that a turn moves only the parts that it touches.
+// A block in work, in small parts: a turn reads and stores it where it stands, and moves only the parts that it touches.
 ghost use Rattle.std.specs.Prelude.{◌≡◌, ◌<◌, set};
 
 use machine::counts::{Cell, Ticket};
@@ -115,6 +115,6 @@ pub(crate) fn pushed<T: Copy>(
     requires { n < 8 }
     ensures { result ≡ set items n x }
 {
-    items[n as usize] = x;
+    items[usize::from(n)] = x;
     items
 }

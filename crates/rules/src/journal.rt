@@ -1,7 +1,7 @@
 // The journal of a job: the last entry for a cell, and one entry more.
 ghost use Rattle.std.specs.Prelude.{◌≡◌, ◌++◌, ◌∷◌, [], ◌≤◌, ◌<◌, get_or, take, nat_eq};
 ghost use Rattle.std.specs.List.{list_any};
-ghost use Rattle.theory.specs.Engine.{no_entry, last_at};
+ghost use Rattle.theory.specs.Engine.{no_entry, last_at, last_value};
 ghost use Rattle.rules.specs.View.{empty_journal, entry_of, journal_of};
 
 use crate::block::{Entry, Journal, pushed};
@@ -33,7 +33,7 @@ impl Journal {
         requires { (self.size ≤ 8) × (number < self.size) }
         ensures { entry_of result ≡ get_or (journal_of self) number no_entry }
     {
-        self.entries[number as usize]
+        self.entries[usize::from(number)]
     }
 
     // The number of the last entry for a cell.
@@ -42,11 +42,20 @@ impl Journal {
         ensures { result ≡ last_at (journal_of self) c.0 }
     {
         for k in (0..self.size).rev() {
-            if self.entries[k as usize].cell == c {
+            if self.entries[usize::from(k)].cell == c {
                 return Some(k);
             }
         }
         None
+    }
+
+    // The value of the last entry for a cell.
+    pub fn last_value(self, c: Cell) -> Option<u64>
+        requires { self.size ≤ 8 }
+        ensures { result ≡ last_value (journal_of self) c.0 }
+    {
+        let number = self.last_entry(c)?;
+        Some(self.entry_at(number).value)
     }
 
     // The entries that it holds.
@@ -54,7 +63,7 @@ impl Journal {
         requires { self.now.size ≤ 8 }
         ensures { result.now ≡ take self.now.size self.now.entries }
     {
-        &self.entries[..self.size as usize]
+        &self.entries[..usize::from(self.size)]
     }
 
     // One entry more.

@@ -22,7 +22,7 @@ impl Shows {
         ensures { result ≡ shown_in self c.0 }
     {
         for k in 0..self.versions.size {
-            let number = self.versions.numbers[k as usize];
+            let number = self.versions.numbers[usize::from(k)];
             if self.journal.entry_at(number).cell == c {
                 return Some(number);
             }
@@ -78,7 +78,7 @@ impl Changed {
         ensures { result ≡ mark_by self.old self.new self.ticket.0 reads }
     {
         for k in 0..reads.size {
-            if self.strikes(reads.reads[k as usize]) {
+            if self.strikes(reads.reads[usize::from(k)]) {
                 return k.min(reads.mark);
             }
         }
@@ -105,7 +105,7 @@ impl Changed {
         ensures { result ≡ sweep (mark_reads self.old self.new self.ticket.0) self.ticket.0 (count - self.ticket.0) lists }
     {
         for k in self.ticket.0..count {
-            lists[k as usize] = self.marked(lists[k as usize]);
+            lists[usize::from(k)] = self.marked(lists[usize::from(k)]);
         }
         lists
     }

@@ -2,9 +2,9 @@
 ghost use Rattle.std.specs.Prelude.{◌≡◌, ◌-◌, ◌≤◌, ◌<◌, nat_eq, nat_le, find, option_map};
 ghost use Rattle.std.specs.List.{list_all};
 ghost use Rattle.theory.specs.Engine.{last_value, or_else};
-ghost use Rattle.rules.specs.View.{journal_of};
+ghost use Rattle.rules.specs.View.{empty_reads, journal_of};
 ghost use Rattle.rules.specs.Moves.{Adds};
-ghost use Rattle.rules.specs.Turn.{listed_in, final_below, outside, reading, writing, stepping, moving};
+ghost use Rattle.rules.specs.Turn.{listed_in, outside, reading, writing, stepping, moving};
 ghost use Rattle.rules.specs.Own.{still, publishing, stepped, ended, settled_own, Wrote, Lists, Goes, InCells, Asks, Moves, AtWrite, AtRead, AtStep, AtTurn, Ready, slot_at, parts_at, shows_of, around_of};
 
 use crate::block::{Block, Checkpoint, Entry, Journal, Read, Reads, Versions, pushed};
@@ -84,10 +84,9 @@ impl Own {
         requires { (self.journal.size ≤ 8) × (self.list.size ≤ 8) }
         ensures { result ≡ or_else (last_value (journal_of self.journal) c.0) (listed_in self.list c.0) }
     {
-        let Some(number) = self.journal.last_entry(c) else {
-            return self.list.value_for(c);
-        };
-        Some(self.journal.entry_at(number).value)
+        self.journal
+            .last_value(c)
+            .or_else(|| self.list.value_for(c))
     }
 
     // A turn after which nobody is marked.
@@ -209,12 +208,27 @@ impl Own {
 }
 
 impl Reads {
+    pub fn empty() -> Reads
+        ensures { result ≡ empty_reads }
+    {
+        let none = Read {
+            cell: Cell(0),
+            source: Ticket(0),
+            value: 0,
+        };
+        Reads {
+            reads: [none; Job::FEW as usize],
+            size: 0,
+            mark: Reads::UNMARKED,
+        }
+    }
+
     // The value of the listed read of a cell.
     fn value_for(self, c: Cell) -> Option<u64>
         requires { self.size ≤ 8 }
         ensures { result ≡ listed_in self c.0 }
     {
-        value_in(&self.reads[..self.size as usize], c)
+        value_in(&self.reads[..usize::from(self.size)], c)
     }
 
     // One read more.
@@ -261,7 +275,7 @@ pub fn cell_read(step: Stepped) -> usize
     ensures { Asks step result }
 {
     match step.act {
-        Act::Read(c) => c.0 as usize,
+        Act::Read(c) => usize::from(c.0),
         _ => 0,
     }
 }
@@ -334,7 +348,7 @@ impl Turning<'_> {
             own.back_to(back)
         } else if own.status == Block::RUNNING {
             self.step_or_end(step)
-        } else if all_final(&self.around.status[..(self.ticket.0 - 1) as usize]) {
+        } else if all_final(&self.around.status[..usize::from(self.ticket.0 - 1)]) {
             own.settle()
         } else {
             own.stay(Word::Wait)

@@ -133,14 +133,3 @@ pub fn job_fits(
         && reads_fit(reads, checkpoints, job.size, journal.size)
         && mark_fits(reads)
 }
-
-// The jobs to be tested: none where there are too many.
-pub fn jobs_in(count: u8) -> usize
-    ensures { result ≡ cond (leb count JOBS) count 0 }
-{
-    if count <= Job::MOST {
-        usize::from(count)
-    } else {
-        0
-    }
-}

@@ -42,7 +42,7 @@ impl Versions {
         requires { (j.size ≤ 8) × (k < j.size) × (self.size ≤ k) }
         ensures { versions_of result ≡ versions_of self ++ last_one (journal_of j) k }
     {
-        if writes(&j.held()[k as usize + 1..], j.entry_at(k).cell) {
+        if writes(&j.held()[usize::from(k) + 1..], j.entry_at(k).cell) {
             self
         } else {
             self.with_version(k)
@@ -68,7 +68,7 @@ impl Versions {
     {
         let mut kept = Versions::empty();
         for k in 0..self.size {
-            kept = kept.with_kept(self.numbers[k as usize], n);
+            kept = kept.with_kept(self.numbers[usize::from(k)], n);
         }
         kept
     }
@@ -103,8 +103,8 @@ impl Around {
         }
         let lower = t.0 - 1;
         let shows = Shows {
-            journal: self.journals[lower as usize],
-            versions: self.versions[lower as usize],
+            journal: self.journals[usize::from(lower)],
+            versions: self.versions[usize::from(lower)],
         };
         let Some(value) = shows.value_for(c) else {
             return self.find_version(start, c, Ticket(lower));

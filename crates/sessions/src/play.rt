@@ -1,5 +1,5 @@
 // A whole session: its bytes to the text that document 01 gives it.
-ghost use Rattle.std.specs.Prelude.{◌≡◌, true, length};
+ghost use Rattle.std.specs.Prelude.{◌≡◌, true};
 ghost use Rattle.theory.specs.Engine.{block_fits, settled};
 ghost use Rattle.rules.specs.Box.{box, limits};
 ghost use Rattle.rules.specs.Block.{block_of};
@@ -10,7 +10,7 @@ ghost use Rattle.sessions.specs.Session.{played, unless_refused, session_text, F
 use crate::fields::{Parts, session_parts};
 use crate::text::Text;
 use machine::counts::{Cell, Place};
-use machine::paper::{Field, Refusal};
+use machine::paper::Field;
 use rules::block::Block;
 use turns::many::take_turns;
 use turns::open::{OpenRefusal, open};
@@ -44,22 +44,17 @@ fn put_played(text: &mut Text<'_>, b: Block, tickets: &[u8])
 }
 
 // What became of an opening: its refusal, or its turns.
+#[tactic(auto, using(crate::proofs::Laws::Play::refused_lines), unfolding(turns::specs::Open::opening_of, crate::specs::Session::unless_refused))]
 fn put_opened(text: &mut Text<'_>, answer: Result<(), OpenRefusal>, b: Block, tickets: &[u8])
     requires { Fresh (block_of b) tickets.now }
     ensures { Written text.old (unless_refused (opening_of answer) (played (block_of b) tickets.now)) text.new }
 {
     match answer {
         Ok(()) => put_played(text, b, tickets),
-        Err(refused) => match refused {
-            OpenRefusal::WrongTable => text.put_refusal(WRONG_TABLE, Field(0), Place(0)),
-            OpenRefusal::Paper(
-                Refusal {
-                    fault,
-                    field,
-                    place,
-                },
-            ) => { text.put_refusal(fault.number(), field, place) }
-        },
+        Err(OpenRefusal::WrongTable) => text.put_refusal(WRONG_TABLE, Field(0), Place(0)),
+        Err(OpenRefusal::Paper(refusal)) => {
+            text.put_refusal(refusal.fault.number(), refusal.field, refusal.place)
+        }
     }
 }
 

@@ -16,7 +16,7 @@ pub(crate) struct Text<'a> {
 }
 
 impl<'a> Text<'a> {
-    ghost use Rattle.sessions.specs.Text.{decimal, byte_text, spaced, last_of, named, turn_line, byte_lines, cell_line, cell_lines, where_of, refused_line, Written};
+    ghost use Rattle.sessions.specs.Text.{decimal, byte_text, spaced, last_of, turn_line, byte_lines, cell_line, cell_lines, where_of, refused_line, Written};
 
     // No text yet.
     pub(crate) fn new(out: &'a mut [u8]) -> Text<'a>

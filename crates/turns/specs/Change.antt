@@ -1,18 +1,15 @@
 -- What a turn changes of a block, and the block with the change stored in it.
-use Rattle.std.specs.Prelude.{◌≡◌, Bool, cond, List, ℕ, ◌-◌, ◌<◌, get_or, set, Option, None, Some}
+use Rattle.std.specs.Prelude.{◌≡◌, ◌≤◌, Bool, true, false, cond, List, ℕ, ◌-◌, ◌<◌, get_or, set, Option, None, Some}
+use mathlib.Core.Logic.{◌⊎◌}
 use Rattle.theory.specs.Engine as E
 use Rattle.rules.specs.Box.{box, limits}
 use Rattle.rules.specs.View.{no_reads}
 use Rattle.rules.specs.Block.{block_of}
-use Rattle.rules.specs.Program.{program_of}
-use Rattle.rules.specs.Steps.{StepsIn}
 use Rattle.rules.specs.Turn.{foreign, moving, Turns}
-use Rattle.rules.specs.Own.{slot_at, still, InCells, Moves}
-use Rattle.machine.specs.declared.job.State.{State}
-use Rattle.machine.specs.declared.step.Stepped.{Stepped}
-use Rattle.rules.specs.declared.block.Program.{Program}
+use Rattle.rules.specs.Own.{slot_at, parts_at, still, Done, Long}
 use Rattle.rules.specs.declared.block.Reads.{Reads}
 use Rattle.rules.specs.declared.block.Block.{Block}
+use Rattle.rules.specs.declared.block.Turned.{Turned}
 use Rattle.rules.specs.declared.own.Own.{Own}
 use Rattle.rules.specs.declared.own.Move.{Move}
 use Rattle.words.specs.declared.word.Word.{Word}
@@ -29,15 +26,22 @@ abbrev pub index_if : Option Word → ℕ → ℕ
 index_if (Some w) t = 0
 index_if None t = t - 1
 
--- the step that the job would take, where its turn is not
-pub record StepsIf (refused : Option Word) (code : Program) (s : State) (done : Stepped) : Type 0 where
-  pub cells : InCells done
-  pub steps : refused ≡ None → StepsIn (program_of code) s done
+-- the turn is ticket t's own, in a block that fits, with the parts of its job at index i
+pub record MayMove (b : Block) (t i : ℕ) (o : Own) : Type 0 where
+  pub mine : foreign b.count t ≡ false
+  pub fit : E.block_fits limits box (block_of b) ≡ true
+  pub index : i ≡ t - 1
+  pub own : o ≡ parts_at b i (slot_at i (get_or b.reads i no_reads).size)
+
+-- the move that the rules make of those parts
+pub record MovesBy (b : Block) (t : ℕ) (o : Own) (m : Move) : Type 0 where
+  pub done : Done b t (moving b (t - 1)) m
+  pub status : (m.own.status ≤ 2) ⊎ (m.own.status ≡ o.status)
 
 -- a refused turn leaves the parts as they were, and says so by its word
-pub record MovesIf (refused : Option Word) (o : Own) (Q : Block → ℕ → Type 0) (m : Move) : Type 0 where
+pub record MovesIf (refused : Option Word) (b : Block) (t : ℕ) (o : Own) (m : Move) : Type 0 where
   pub stays : (w : Word) → refused ≡ Some w → m ≡ still w o
-  pub moves : refused ≡ None → Moves o Q moving m
+  pub moves : refused ≡ None → MovesBy b t o m
 
 -- ---- what it changes
 -- a move of the job at index i, with the slot at s and these lists of reads
@@ -79,3 +83,10 @@ pub record Changes (b : Block) (t : ℕ) (c : Change) : Type 0 where
   pub inside : c.index < 16
   pub within : c.slot < 128
   pub turns : Turns b t (record { block = changed b c; word = c.word })
+
+-- ---- a turn in the block where it stands
+-- the plain turn of ticket t; whether the block fits stays so
+pub record TurnsIn (b : Block) (fits : Bool) (t : ℕ) (r : Turned) : Type 0 where
+  pub turns : Turns b t r
+  pub long : Long r.block
+  pub fitting : fits ≡ E.block_fits limits box (block_of r.block)

@@ -1,14 +1,13 @@
 // The opening: a block in work with every job fresh; or a refusal, and a block with no jobs and an all-zero table.
 ghost use Rattle.std.specs.Prelude.{◌≡◌, [], replicate};
 ghost use Rattle.machine.specs.Limits.{CELLS};
-ghost use Rattle.rules.specs.View.{empty_reads};
 ghost use Rattle.turns.specs.declared.open.OpenRefusal.TheVariants.{Paper};
 ghost use Rattle.turns.specs.Open.{filled_block, whole_block, Opens};
 
-use machine::counts::{Cell, Ticket};
+use machine::counts::Cell;
 use machine::job::Job;
 use machine::paper::{Refusal, check_paper};
-use rules::block::{Block, Checkpoint, Journal, Program, Read, Reads, Versions};
+use rules::block::{Block, Checkpoint, Journal, Program, Reads, Versions};
 use rules::program::programs_of;
 
 // The cells of a whole table.
@@ -36,22 +35,6 @@ pub struct Opened {
     pub answer: Result<(), OpenRefusal>,
 }
 
-// A job that has read nothing is marked nowhere.
-fn no_reads() -> Reads
-    ensures { result ≡ empty_reads }
-{
-    let none = Read {
-        cell: Cell(0),
-        source: Ticket(0),
-        value: 0,
-    };
-    Reads {
-        reads: [none; Job::FEW as usize],
-        size: 0,
-        mark: Reads::UNMARKED,
-    }
-}
-
 // The first count jobs, each at its start.
 fn fresh_block(table: Table, count: u8, jobs: [Program; Job::MOST as usize]) -> Block
     ensures { result ≡ filled_block table count jobs }
@@ -70,7 +53,7 @@ fn fresh_block(table: Table, count: u8, jobs: [Program; Job::MOST as usize]) -> 
         status: [Block::RUNNING; Job::MOST as usize],
         journals: [Journal::empty(); Job::MOST as usize],
         versions: [Versions::empty(); Job::MOST as usize],
-        reads: [no_reads(); Job::MOST as usize],
+        reads: [Reads::empty(); Job::MOST as usize],
         checkpoints: [checkpoint; Block::SLOTS * (Job::MOST as usize)],
     }
 }

@@ -31,9 +31,9 @@ fn read_alone(j: Journal, c: Cell, table: &Table) -> u64
     requires { (j.size ≤ FEW) × (c.0 < CELLS) }
     ensures { result ≡ over (journal_of j) (cells_of table.now) c.0 }
 {
-    match j.last_entry(c) {
-        Some(number) => j.entry_at(number).value,
-        None => table[c.0 as usize],
+    match j.last_value(c) {
+        Some(value) => value,
+        None => table[usize::from(c.0)],
     }
 }
 

@@ -24,7 +24,7 @@ fn count_finals(status: &[u8; Job::MOST as usize], count: u8) -> u8
     requires { count ≤ JOBS }
     ensures { result ≡ finals_below status.now count }
 {
-    let first = &status[..count as usize];
+    let first = &status[..usize::from(count)];
     first.iter().filter(|s| Block::FINAL <= **s).count() as u8
 }
 
@@ -45,7 +45,7 @@ fn settle_cells(b: &Block, f: u8, table: &mut Table)
     ensures { table.new ≡ tab CELLS (cell_found b.now f) }
 {
     *table = b.start;
-    for k in 0..f as usize {
+    for k in 0..usize::from(f) {
         apply_versions(b.journals[k], b.versions[k], table);
     }
 }

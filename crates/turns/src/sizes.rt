@@ -6,15 +6,18 @@ ghost use Rattle.rules.specs.Block.{block_of};
 
 use machine::job::Job;
 use rules::block::Block;
-use rules::sizes::{job_fits, jobs_in};
+use rules::sizes::job_fits;
 
 // Whether a block in work fits its sizes.
 pub(crate) fn block_fits(b: &Block) -> bool
     ensures { result ≡ block_fits limits box (block_of b.now) }
 {
+    if Job::MOST < b.count {
+        return false;
+    }
     let (checkpoints, _) = b.checkpoints.as_chunks::<{ Block::SLOTS }>();
-    let mut fits = b.count <= Job::MOST;
-    for k in 0..jobs_in(b.count) {
+    let mut fits = true;
+    for k in 0..usize::from(b.count) {
         fits &= job_fits(
             &b.jobs[k],
             &b.states[k],

@@ -1,15 +1,16 @@
 // One turn of a block in work.
 ghost use Rattle.std.specs.Prelude.{◌≡◌, ◌-◌, ◌≤◌, ◌<◌, set};
-ghost use Rattle.machine.specs.Limits.{LONGEST};
 ghost use Rattle.rules.specs.Turn.{foreign, Turns};
-ghost use Rattle.rules.specs.Own.{shows_of, marked_by, AtTurn, Ready, MayMark};
-ghost use Rattle.turns.specs.Change.{refusing, index_if, StepsIf, MovesIf, change_by, Changes};
+ghost use Rattle.theory.specs.Engine.{block_fits};
+ghost use Rattle.rules.specs.Box.{limits, box};
+ghost use Rattle.rules.specs.Block.{block_of};
+ghost use Rattle.rules.specs.Own.{shows_of, marked_by, MayMark, Long};
+ghost use Rattle.turns.specs.Change.{refusing, index_if, MayMove, MovesBy, MovesIf, change_by, Changes, TurnsIn};
 
 use crate::sizes::block_fits;
 use machine::counts::Ticket;
 use machine::job::{Job, State};
-use machine::step::{Act, Stepped};
-use rules::block::{Block, Checkpoint, Journal, Program, Reads, Turned, Versions};
+use rules::block::{Block, Checkpoint, Journal, Reads, Turned, Versions};
 use rules::marks::Changed;
 use rules::own::{Around, Move, Own, Turning, cell_read, slot_of};
 use words::word::Word;
@@ -68,42 +69,54 @@ fn index_in(t: Ticket, refused: Option<Word>) -> usize
     }
 }
 
-// The step that the job would take; none for a refused ticket.
-fn next_step(refused: Option<Word>, job: &Program, s: State) -> Stepped
-    requires { refused ≡ None → (s.place.0 < job.now.size) × (job.now.size ≤ LONGEST) }
-    ensures { StepsIf refused job.now s result }
+// What the rules make of the parts of the job at an index, whose ticket is t.
+fn move_of(b: &Block, t: Ticket, i: usize, own: &Own) -> Move
+    requires { (i < 16) × MayMove b.now t.0 i own.now }
+    ensures { MovesBy b.now t.0 own.now result }
 {
-    match refused {
-        Some(_) => Stepped {
-            act: Act::Stuck,
-            state: s,
-        },
-        None => job.step(s),
-    }
+    let back = b.checkpoints[slot_of(i, b.reads[i].mark)];
+    let step = b.jobs[i].step(own.state);
+    let taking = Turning {
+        own,
+        around: &Around::of(b),
+        first: b.start[cell_read(step)],
+        ticket: t,
+    };
+    taking.take(step, back)
 }
 
-// The rules, or the word of a refused turn.
-fn take_or_refuse(
-    refused: Option<Word>,
-    step: Stepped,
-    own: &Own,
-    back: Checkpoint,
-    around: &Around,
-    first: u64,
-    t: Ticket,
-) -> Move
-    requires { refused ≡ None → Ready own.now around.now t.0 }
-    ensures { MovesIf refused own.now (AtTurn step around.now first back t.0) result }
+// The same, or the word of a refused turn.
+fn move_or_refuse(refused: Option<Word>, b: &Block, t: Ticket, i: usize, own: &Own) -> Move
+    requires { (i < 16) × (refused ≡ None → MayMove b.now t.0 i own.now) }
+    ensures { MovesIf refused b.now t.0 own.now result }
 {
     match refused {
         Some(word) => own.stay(word),
-        None => Turning {
-            own,
-            around,
-            first,
+        None => move_of(b, t, i, own),
+    }
+}
+
+// The lists of reads after a move of the job at an index: its own, and the higher jobs' marked where the move may have changed what is
+// public.
+fn list_reads(
+    done: &Move,
+    own: &Own,
+    lists: &mut [Reads; Job::MOST as usize],
+    count: u8,
+    t: Ticket,
+    i: usize,
+)
+    requires { (i < 16) × MayMark done.now own.now lists.old count i }
+    ensures { lists.new ≡ marked_by done.now.marks (set lists.old i done.now.own.list) count (shows_of own.now) (shows_of done.now.own) t.0 }
+{
+    lists[i] = done.own.list;
+    if done.marks {
+        let changed = Changed {
+            old: own.shows(),
+            new: done.own.shows(),
             ticket: t,
-        }
-        .take(step, back),
+        };
+        *lists = changed.mark_above(*lists, count);
     }
 }
 
@@ -122,15 +135,7 @@ fn change_by(
 {
     let after = done.own;
     let mut reads = lists;
-    reads[i] = after.list;
-    if done.marks {
-        let changed = Changed {
-            old: own.shows(),
-            new: after.shows(),
-            ticket: t,
-        };
-        reads = changed.mark_above(reads, count);
-    }
+    list_reads(&done, &own, &mut reads, count, t, i);
     Change {
         reads,
         state: after.state,
@@ -151,37 +156,40 @@ pub fn change_of(b: &Block, t: Ticket) -> Change
 {
     let refused = refusal(t, b.count, block_fits(b));
     let i = index_in(t, refused);
-    let list = b.reads[i];
-    let slot = slot_of(i, list.size);
+    let slot = slot_of(i, b.reads[i].size);
     let own = Own::of(b, i, slot);
-    let around = Around::of(b);
-    let step = next_step(refused, &b.jobs[i], own.state);
-    let first = b.start[cell_read(step)];
-    let back = b.checkpoints[slot_of(i, list.mark)];
-    let done = take_or_refuse(refused, step, &own, back, &around, first, t);
+    let done = move_or_refuse(refused, b, t, i, &own);
     change_by(done, own, b.reads, b.count, t, i, slot)
 }
 
-// Ticket t takes one turn: 14 for a ticket that is none of the block's, 20 for a block that does not fit, and else the rules.
+// Ticket t takes one turn in the block where it stands: 14 for a ticket that is none of the block's, 20 for a block that does not
+// fit, and else the rules.
+pub(crate) fn take_turn(b: &mut Block, fits: bool, t: Ticket) -> Word
+    requires { (fits ≡ block_fits limits box (block_of b.old)) × Long b.old }
+    ensures { TurnsIn b.old fits t.0 (record { block = b.new; word = result }) }
+{
+    if let Some(word) = refusal(t, b.count, fits) {
+        return word;
+    }
+    let i = index_of(t);
+    let slot = slot_of(i, b.reads[i].size);
+    let own = Own::of(b, i, slot);
+    let done = move_of(b, t, i, &own);
+    let after = done.own;
+    b.states[i] = after.state;
+    b.status[i] = after.status;
+    b.journals[i] = after.journal;
+    b.versions[i] = after.versions;
+    b.checkpoints[slot] = after.slot;
+    list_reads(&done, &own, &mut b.reads, b.count, t, i);
+    done.word
+}
+
+// Ticket t takes one turn.
 pub fn turn(mut b: Block, t: Ticket) -> Turned
     ensures { Turns b t.0 result }
 {
-    let Change {
-        reads,
-        state,
-        journal,
-        saved,
-        versions,
-        status,
-        index,
-        slot,
-        word,
-    } = change_of(&b, t);
-    b.states[index] = state;
-    b.status[index] = status;
-    b.journals[index] = journal;
-    b.versions[index] = versions;
-    b.reads = reads;
-    b.checkpoints[slot] = saved;
+    let fits = block_fits(&b);
+    let word = take_turn(&mut b, fits, t);
     Turned { block: b, word }
 }

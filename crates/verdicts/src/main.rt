@@ -22,45 +22,17 @@ enum At {
     Wrong,
 }
 
-// What was read: so many bytes of a paper, where the text is, its line, and the line of the last byte.
-#[derive(Clone, Copy)]
-struct Reader {
+// What was read, and where the answers go: so many bytes of a paper at its buffer's start, where the text is, its line, and
+// the line of the last byte.
+#[derive(Drop)]
+struct Papers<'a, O: Write, E: Write> {
+    out: &'a mut O,
+    err: &'a mut E,
+    paper: &'a mut [u8],
     size: usize,
     at: At,
     line: u64,
     last: u64,
-}
-
-impl Reader {
-    fn fresh() -> Reader {
-        Reader {
-            size: 0,
-            at: At::Gap,
-            line: 1,
-            last: 1,
-        }
-    }
-
-    // So many bytes of a paper.
-    fn with(self, size: usize, at: At) -> Reader {
-        Reader { size, at, ..self }
-    }
-
-    fn with_digit(self, digit: u8) -> Reader {
-        Reader {
-            at: At::Half(digit),
-            last: self.line,
-            ..self
-        }
-    }
-
-    fn next_line(self) -> Reader {
-        Reader {
-            at: At::Gap,
-            line: self.line.wrapping_add(1),
-            ..self
-        }
-    }
 }
 
 // The value of a hexadecimal digit.
@@ -75,119 +47,115 @@ fn digit_of(b: u8) -> Option<u8>
     }
 }
 
-fn answer<O: Write>(out: &mut O, paper: &[u8]) -> io::Result<()> {
-    match check_paper(paper) {
-        Ok(jobs) => writeln!(out, "passes {}", jobs.count),
-        Err(refusal) => {
-            let (number, field, place) = (refusal.fault.number(), refusal.field.0, refusal.place.0);
-            writeln!(out, "refused {number} {field} {place}")
+impl<'a, O: Write, E: Write> Papers<'a, O, E> {
+    // The answer to the paper. It is no longer than its buffer.
+    fn answer(&mut self) -> io::Result<()> {
+        let size = self.size;
+        if self.paper.len() < size {
+            return Ok(());
+        }
+        match check_paper(&self.paper[..size]) {
+            Ok(jobs) => writeln!(self.out, "passes {}", jobs.count),
+            Err(refusal) => {
+                let (number, field, place) = (
+                    refusal.fault.number(),
+                    refusal.field.0,
+                    refusal.place.0,
+                );
+                writeln!(self.out, "refused {number} {field} {place}")
+            }
         }
     }
-}
 
-// The answer to the first bytes of the buffer.
-fn answer_first<O: Write>(out: &mut O, buffer: &[u8], size: usize) -> io::Result<()> {
-    if size <= buffer.len() {
-        answer(out, &buffer[..size])?;
+    fn tell(&mut self, line: u64, what: &str) -> io::Result<()> {
+        writeln!(self.err, "line {line}: {what}")
     }
-    Ok(())
-}
 
-fn tell<E: Write>(err: &mut E, line: u64, what: &str) -> io::Result<()> {
-    writeln!(err, "line {line}: {what}")
-}
-
-// A word that is no byte ends the papers.
-fn refuse_word<E: Write>(err: &mut E, r: Reader) -> io::Result<Reader> {
-    tell(err, r.line, "not a byte of two hex digits")?;
-    Ok(r.with(0, At::Wrong))
-}
-
-// The reader after a byte that parts words.
-fn part_words<E: Write>(err: &mut E, r: Reader, b: u8) -> io::Result<Reader> {
-    match b {
-        b'\n' => Ok(r.next_line()),
-        b'#' => Ok(r.with(r.size, At::Comment)),
-        b' ' | 9 | 11 | 12 | 13 => Ok(r.with(r.size, At::Gap)),
-        _ => refuse_word(err, r),
+    // A word that is no byte ends the papers.
+    fn refuse_word(&mut self) -> io::Result<()> {
+        self.tell(self.line, "not a byte of two hex digits")?;
+        self.size = 0;
+        self.at = At::Wrong;
+        Ok(())
     }
-}
 
-// The reader after the first byte of a word, or one between words.
-fn begin_word<O: Write, E: Write>(
-    out: &mut O,
-    err: &mut E,
-    paper: &mut [u8],
-    r: Reader,
-    b: u8,
-) -> io::Result<Reader> {
-    if let Some(digit) = digit_of(b) {
-        return Ok(r.with_digit(digit));
+    fn end_line(&mut self) {
+        self.at = At::Gap;
+        self.line = self.line.wrapping_add(1);
     }
-    if b == b'.' {
-        answer_first(out, &*paper, r.size)?;
-        return Ok(r.with(0, At::Word));
-    }
-    part_words(err, r, b)
-}
 
-// The reader after the byte behind a first digit. A byte past the buffer is dropped.
-fn end_byte<E: Write>(
-    err: &mut E,
-    paper: &mut [u8],
-    r: Reader,
-    high: u8,
-    b: u8,
-) -> io::Result<Reader> {
-    let Some(low) = digit_of(b) else {
-        return refuse_word(err, r);
-    };
-    if r.size < paper.len() {
-        paper[r.size] = high << 4 | low;
-        return Ok(r.with(r.size + 1, At::Word));
+    // A byte that parts words.
+    fn part_words(&mut self, b: u8) -> io::Result<()> {
+        match b {
+            b'\n' => self.end_line(),
+            b'#' => self.at = At::Comment,
+            b' ' | 9 | 11 | 12 | 13 => self.at = At::Gap,
+            _ => return self.refuse_word(),
+        }
+        Ok(())
     }
-    Ok(r.with(r.size, At::Word))
-}
 
-// The reader after one byte.
-fn read_byte<O: Write, E: Write>(
-    out: &mut O,
-    err: &mut E,
-    paper: &mut [u8],
-    r: Reader,
-    b: u8,
-) -> io::Result<Reader> {
-    match r.at {
-        At::Gap => begin_word(out, err, paper, r, b),
-        At::Half(high) => end_byte(err, paper, r, high, b),
-        At::Word => part_words(err, r, b),
-        At::Comment if b == b'\n' => Ok(r.next_line()),
-        At::Comment | At::Wrong => Ok(r),
+    // The first byte of a word, or one between words.
+    fn begin_word(&mut self, b: u8) -> io::Result<()> {
+        if let Some(digit) = digit_of(b) {
+            self.at = At::Half(digit);
+            self.last = self.line;
+            return Ok(());
+        }
+        if b != b'.' {
+            return self.part_words(b);
+        }
+        self.answer()?;
+        self.size = 0;
+        self.at = At::Word;
+        Ok(())
     }
-}
 
-fn read_bytes<O: Write, E: Write>(
-    out: &mut O,
-    err: &mut E,
-    paper: &mut [u8],
-    r: Reader,
-    bytes: &[u8],
-) -> io::Result<Reader> {
-    let mut reader = r;
-    for b in bytes {
-        reader = read_byte(out, err, paper, reader, *b)?;
+    // The byte behind a first digit. A byte past the buffer is dropped.
+    fn end_byte(&mut self, high: u8, b: u8) -> io::Result<()> {
+        let Some(low) = digit_of(b) else {
+            return self.refuse_word();
+        };
+        if self.size < self.paper.len() {
+            self.paper[self.size] = high << 4 | low;
+            self.size += 1;
+        }
+        self.at = At::Word;
+        Ok(())
     }
-    Ok(reader)
-}
 
-// Half a byte, or a paper without its dot, is told at the end of the text.
-fn end_text<E: Write>(err: &mut E, r: Reader) -> io::Result<()> {
-    if let At::Half(_) = r.at {
-        refuse_word(err, r)?;
-    } else if r.size > 0 {
-        tell(err, r.last, "no dot after the last paper")?;
+    fn read_byte(&mut self, b: u8) -> io::Result<()> {
+        match self.at {
+            At::Gap => self.begin_word(b),
+            At::Half(high) => self.end_byte(high, b),
+            At::Word => self.part_words(b),
+            At::Comment => {
+                if b == b'\n' {
+                    self.end_line();
+                }
+                Ok(())
+            }
+            At::Wrong => Ok(()),
+        }
     }
-    Ok(())
+
+    fn read_bytes(&mut self, bytes: &[u8]) -> io::Result<()> {
+        for &b in bytes {
+            self.read_byte(b)?;
+        }
+        Ok(())
+    }
+
+    // Half a byte, or a paper without its dot, is told at the end of the text.
+    fn end_text(&mut self) -> io::Result<()> {
+        if let At::Half(_) = self.at {
+            return self.refuse_word();
+        }
+        if self.size > 0 {
+            self.tell(self.last, "no dot after the last paper")?;
+        }
+        Ok(())
+    }
 }
 
 // The buffer holds all that a verdict can depend on: sixteen fields that pass, of 579 bytes each, and a head with the
@@ -196,18 +164,21 @@ fn main(rt: HostRuntime) -> io::Result<()> {
     let (mut input, mut out, mut err) = (rt.stdin(), rt.stdout(), rt.stderr());
     let mut paper = [0u8; 74802];
     let mut bytes = [0u8; 4096];
-    let mut reader = Reader::fresh();
+    let mut papers = Papers {
+        out: &mut out,
+        err: &mut err,
+        paper: &mut paper,
+        size: 0,
+        at: At::Gap,
+        line: 1,
+        last: 1,
+    };
     for _ in 0..u64::MAX {
         match input.read(&mut bytes) {
-            Ok(0) => return end_text(&mut err, reader),
-            Ok(n) => {
-                reader = read_bytes(&mut out, &mut err, &mut paper, reader, &bytes[..n])?;
-            }
-            Err(e) => {
-                if e.kind() != ErrorKind::Interrupted {
-                    return Err(e);
-                }
-            }
+            Ok(0) => return papers.end_text(),
+            Ok(n) => papers.read_bytes(&bytes[..n])?,
+            Err(e) if e.kind() == ErrorKind::Interrupted => {}
+            Err(e) => return Err(e),
         }
     }
     Ok(())

@@ -1,6 +1,6 @@
 -- The sizes: the tests stand in the definition's order, and in a loop what is left from here decides.
 use mathlib.Core.Path.{◌≡◌, refl, ap, sym, ◌∙◌}
-use mathlib.Core.Bool.{Bool, true, false, cond, ◌&&◌, and_assoc, and-true}
+use mathlib.Core.Bool.{Bool, true, false, ◌&&◌}
 use mathlib.Core.List.{List}
 use Prim.Native.Nat.{ℕ, zero, suc, ◌+◌, ◌*◌, ◌-◌, ◌/◌, ◌≤◌, ◌<◌}
 use native.Mathlib.Omega.{arith}
@@ -115,18 +115,18 @@ chunk_is cs parts e l k d m = rw (e, l) (chunk_at 16 k cs d m)
 -- the first k jobs fit, unless there are too many
 pub record Testing (b : Block) (n k : ℕ) (x : Bool) : Type 0 where
   pub few : n ≤ 16
-  pub count : n ≡ cond (leb b.count JOBS) b.count 0
+  pub count : n ≡ b.count
   pub low : k ≤ n
-  pub so_far : x ≡ leb b.count JOBS && passes (job_within_at b) 0 k
+  pub so_far : x ≡ passes (job_within_at b) 0 k
 
 module _ (b : Block) where
-  pub test_start : (n : ℕ) → n ≡ cond (leb b.count JOBS) b.count 0 → Testing b n 0 (leb b.count JOBS)
+  pub test_start : (n : ℕ) → n ≡ b.count → b.count ≤ 16 → Testing b n 0 true
   unfolding passes
-  test_start n e = record { few = few (leb b.count JOBS) refl e; count = e; low = omega arith; so_far = sym (and-true (leb b.count JOBS)) }
-    where
-      few : (x : Bool) → leb b.count JOBS ≡ x → n ≡ cond x b.count 0 → n ≤ 16
-      few true q e = omega (arith, leb-true b.count JOBS q)
-      few false q e = omega arith
+  test_start n e l = record { few = omega arith; count = e; low = omega arith; so_far = refl }
+
+  -- too many jobs fit nowhere
+  pub test_many : 16 < b.count → false ≡ block_fits limits box (block_of b)
+  test_many l = sym (block_is b ∙ rw (lt-leb _ _ l) refl)
 
   -- a job with the eight checkpoints at its place
   abbrev here_with : ℕ → List Checkpoint → Bool
@@ -144,14 +144,10 @@ module _ (b : Block) where
       few = g.few;
       count = g.count;
       low = omega arith;
-      so_far =
-          rw (g.so_far, h, e, here_is k)
-          (and_assoc (leb b.count JOBS) (passes (job_within_at b) 0 k) (job_within_at b k) ∙ ap (λ (t : Bool). leb b.count JOBS && t) (passes_more (job_within_at b) k));
+      so_far = rw (g.so_far, h, e, here_is k) (passes_more (job_within_at b) k);
     }
 
     pub test_end : n ≤ k → x ≡ block_fits limits box (block_of b)
-    test_end l = g.so_far ∙ all (leb b.count JOBS) g.count ∙ sym (block_is b)
-      where
-        all : (t : Bool) → n ≡ cond t b.count 0 → t && passes (job_within_at b) 0 k ≡ t && passes (job_within_at b) 0 b.count
-        all true e = ap (passes (job_within_at b) 0) (let w : k ≡ b.count = omega (arith, g.low) in w)
-        all false e = refl
+    test_end l =
+        let w : k ≡ b.count = omega (arith, g.low, g.count) in
+        g.so_far ∙ ap (passes (job_within_at b) 0) w ∙ sym (block_is b ∙ rw (le-leb b.count JOBS (omega (arith, g.few, g.count))) refl)

@@ -7,7 +7,7 @@ use Prim.Native.Nat.{ℕ, zero, suc, ◌+◌, ◌≤◌, ◌<◌}
 use native.Mathlib.Omega.{arith}
 use lib.ListN.{length}
 use borrow.Author.Tests.{eq-eqb}
-use Rattle.std.specs.Prelude.{Result, Ok, Err}
+use Rattle.std.specs.Prelude.{Result}
 use Rattle.theory.specs.Word as W
 use Rattle.theory.specs.Engine as E
 use Rattle.theory.specs.Word.{final_word}
@@ -15,7 +15,7 @@ use Rattle.theory.proofs.Finals.{finals_turn}
 use Rattle.theory.proofs.Sizes.{turns_fit}
 use Rattle.machine.specs.Machine.{Running}
 use Rattle.machine.specs.View.{number, number_some}
-use Rattle.machine.specs.declared.paper.Refusal.{Refusal}
+use Rattle.machine.specs.declared.verdict.Fault.{Fault}
 use Rattle.rules.specs.Box.{box, limits, box_promise}
 use Rattle.rules.specs.Block.{block_of}
 use Rattle.turns.specs.Many.{words, byte_of, bytes, if_long, Takes}
@@ -25,8 +25,6 @@ use Rattle.turns.specs.Demands.{open_fits, open_finals}
 use Rattle.rules.specs.declared.block.Block.{Block}
 use Rattle.turns.specs.declared.many.Taken.{Taken}
 use Rattle.turns.specs.declared.open.Opened.{Opened}
-use Rattle.turns.specs.declared.open.OpenRefusal.{OpenRefusal}
-use Rattle.turns.specs.declared.open.OpenRefusal.TheVariants.{WrongTable, Paper}
 use Rattle.turns.specs.declared.settled.SettleRefusal.{SettleRefusal}
 use Rattle.sessions.specs.Limits.{TURNS}
 use Rattle.sessions.specs.Text.{word_text, byte_text, final_byte, byte_lines, cell_lines, refused_line, Written}
@@ -94,25 +92,14 @@ module _ (b : Block) (fits : E.block_fits limits box (block_of b) ≡ true) (bef
       let t : table ≡ E.settled limits box (block_of b) = settles.table ∙ rw (eq-eqb (length before) 256 whole, fits) refl in
       rw t at p
 
--- ---- what became of an opening
-numbered : (n field place : ℕ) (text : List ℕ) → 0 < n → refused_line (n, field, place) ≡ unless_refused (n, field, place) text
+-- ---- what became of an opening: no refusal has the number 0
+numbered : (n field place : ℕ) (text : List ℕ) → 0 < n → unless_refused (n, field, place) text ≡ refused_line (n, field, place)
 unfolding unless_refused
 numbered zero field place text l = absurd (omega arith)
 numbered (suc n) field place text l = refl
 
-module _ {T : Type 0} (a : Result T OpenRefusal) (text : List ℕ) (start end : Text) where
-  pub opened_played : (t : T) → a ≡ Ok t → Written start text end → Written start (unless_refused (opening_of a) text) end
-  unfolding opening_of unless_refused
-  opened_played t e p = rw e p
-
-  pub opened_wrong : a ≡ Err WrongTable → Written start (refused_line (12, 0, 0)) end → Written start (unless_refused (opening_of a) text) end
-  unfolding opening_of unless_refused
-  opened_wrong e p = rw e p
-
-  pub opened_refused : (r : Refusal) (x : ℕ) → a ≡ Err (Paper r) → x ≡ number r.fault → Written start (refused_line (x, r.field.0, r.place.0)) end
-      → Written start (unless_refused (opening_of a) text) end
-  unfolding opening_of
-  opened_refused r x e q p = rw (e, ← numbered (number r.fault) r.field.0 r.place.0 text (number_some r.fault), ← q) p
+pub refused_lines : (f : Fault) (field place : ℕ) (text : List ℕ) → unless_refused (number f, field, place) text ≡ refused_line (number f, field, place)
+refused_lines f field place text = numbered (number f) field place text (number_some f)
 
 -- ---- the whole session
 module _ (input : List ℕ) {start end : Text} where

@@ -13,19 +13,18 @@ use lib.Seq.{get_or-set_same, get_or-set_other}
 use borrow.Author.Tests.{eq-eqb, ne_eqb, lt-ltb}
 use Rattle.theory.specs.Engine as E
 use Rattle.machine.specs.Limits.{LONGEST}
-use Rattle.machine.specs.declared.job.State.{State}
 use Rattle.machine.specs.declared.step.Stepped.{Stepped}
-use Rattle.rules.specs.Box.{box, limits}
-use Rattle.rules.specs.Program.{no_program, program_of}
+use Rattle.theory.proofs.Sizes.{turn_fits}
+use Rattle.rules.specs.Box.{box, box_promise, limits}
+use Rattle.rules.specs.Program.{no_program}
 use Rattle.rules.specs.View.{no_reads}
 use Rattle.rules.specs.Block.{code_at, no_state, no_checkpoint, block_of}
 use Rattle.rules.specs.Steps.{StepsIn}
-use Rattle.rules.specs.Marks.{Shown, mark_reads, sweep, ListsFit}
+use Rattle.rules.specs.Marks.{mark_reads, sweep}
 use Rattle.rules.specs.Fitting.{count_fit}
 use Rattle.rules.specs.Turn.{moving, foreign, Did, Keeps, Turns, Whole}
 use Rattle.rules.specs.Own.{still, slot_at, parts_at, own_of, shows_of, marked_by, placed, stored_at, Long, Done, Moves, around_of, AtTurn, Asks, Ready, MayMark}
-use Rattle.turns.specs.Change.{refusing, index_if, StepsIf, MovesIf, change_by, Changes}
-use Rattle.rules.specs.declared.block.Program.{Program}
+use Rattle.turns.specs.Change.{refusing, index_if, MayMove, MovesBy, MovesIf, change_by, Changes, TurnsIn}
 use Rattle.rules.specs.declared.block.Reads.{Reads}
 use Rattle.rules.specs.declared.block.Block.{Block}
 use Rattle.rules.specs.declared.marks.Shows.{Shows}
@@ -40,7 +39,6 @@ use Rattle.rules.proofs.Laws.Reading.{below_showing}
 use Rattle.rules.proofs.Laws.Rules.{idle_leaves}
 use Rattle.turns.proofs.Laws.Turn.{whole_fit, not_refused, turn_refused, turn_taken}
 use Rattle.rules.proofs.Laws.Placed.{stored_still}
-use Rattle.rules.proofs.Laws.Take.{steps_cells}
 
 -- ---- whose ticket
 pub own_ticket : (n t : ℕ) → foreign n t ≡ false → (0 < t) × (t ≤ n)
@@ -59,13 +57,6 @@ length_sweep f k (suc n) ls = length_sweep f (suc k) n _ ∙ length-set ls k (f 
 length_marked : (x : Bool) (ls : List Reads) (n : ℕ) (old new : Shows) (t : ℕ) → length (marked_by x ls n old new t) ≡ length ls
 length_marked true ls n old new t = length_sweep (mark_reads old new t) t (n - t) ls
 length_marked false ls n old new t = refl
-
--- the lists after a move that marks, and after one that does not
-pub marked_by_lem : (x : Bool) (ls ms : List Reads) (n : ℕ) (old new old' new' : Shows) (t : ℕ) → x ≡ true → old ≡ old' → new ≡ new' → ms ≡ sweep (mark_reads old new t) t (n - t) ls → ms ≡ marked_by x ls n old' new' t
-marked_by_lem x ls ms n old new old' new' t e eo en q = rw (e, ← eo, ← en) q
-
-pub unmarked_by : (x : Bool) (ls : List Reads) (n : ℕ) (old new : Shows) (t : ℕ) → x ≡ false → ls ≡ marked_by x ls n old new t
-unmarked_by x ls n old new t e = rw e refl
 
 pub few_tickets : (b : Block) (t : ℕ) → foreign b.count t ≡ false → E.block_fits limits box (block_of b) ≡ true → (0 < t) × (t ≤ 16)
 few_tickets b t mine fit = let own = own_ticket b.count t mine in (own.0, omega (arith, own.1, count_fit b fit))
@@ -88,42 +79,47 @@ module _ (b : Block) (t : ℕ) (mine : foreign b.count t ≡ false) (fit : E.blo
   pub standing : (i : ℕ) → i ≡ t - 1 → ((get_or b.states i no_state).place.0 < (get_or b.jobs i no_program).size) × ((get_or b.jobs i no_program).size ≤ LONGEST)
   standing i ei = rw ei (whole.inside (t - 1) inner, whole.short (t - 1) inner)
 
-  module _ (long : Long b) (i s k : ℕ) (ei : i ≡ t - 1) (es : s ≡ slot_at i (get_or b.reads i no_reads).size) (ek : k ≡ slot_at i (get_or b.reads i no_reads).mark)
-      (own : Own) (around : Around) (eo : own ≡ parts_at b i s) (ea : around ≡ around_of b) where
+  module _ (long : Long b) (i s : ℕ) (ei : i ≡ t - 1) (es : s ≡ slot_at i (get_or b.reads i no_reads).size) (own : Own) (eo : own ≡ parts_at b i s) where
     own_is : own ≡ own_of b (t - 1)
     own_is = rw (eo, es, ei) refl
 
-    pub ready : Ready own around t
-    ready = rw (own_is, ea) (record {
-      some = some;
-      few = omega (arith, inside, whole.sized.count);
-      showing = whole.sized.showing.showing (t - 1) inner;
-      list = whole.sized.lists.few (t - 1) inner;
-      below = below_showing b t whole.sized some inside;
-    })
+    module _ (k : ℕ) (ek : k ≡ slot_at i (get_or b.reads i no_reads).mark) (around : Around) (ea : around ≡ around_of b) where
+      pub ready : Ready own around t
+      ready = rw (own_is, ea) (record {
+        some = some;
+        few = omega (arith, inside, whole.sized.count);
+        showing = whole.sized.showing.showing (t - 1) inner;
+        list = whole.sized.lists.few (t - 1) inner;
+        below = below_showing b t whole.sized some inside;
+      })
 
-    module _ (step : Stepped) (steps : StepsIn (code_at b i) (get_or b.states i no_state) step) (c : ℕ) (asks : Asks step c)
-        (m : Move) (moves : Moves own (AtTurn step around (get_or b.start c 0) (get_or b.checkpoints k no_checkpoint) t) moving m) where
+      pub moved : (step : Stepped) → StepsIn (code_at b i) (get_or b.states i no_state) step → (c : ℕ) → Asks step c
+          → (m : Move) → Moves own (AtTurn step around (get_or b.start c 0) (get_or b.checkpoints k no_checkpoint) t) moving m → MovesBy b t own m
+      moved step steps c asks m moves = record {
+        status = moves.status;
+        done = moves.on b t (record { some = some; inside = inside; whole = whole; long = long; own = own_is })
+            (record {
+              step = record { ticket = refl; around = ea; steps = rw ei at steps; start = λ d e. ap (λ (x : ℕ). get_or b.start x 0) (asks.cell d e) };
+              back = rw (ek, ei) refl;
+            });
+      }
+
+    module _ (m : Move) (by : MovesBy b t own m) where
       done : Done b t (moving b (t - 1)) m
-      done = moves.on b t (record { some = some; inside = inside; whole = whole; long = long; own = own_is })
-          (record {
-            step = record { ticket = refl; around = ea; steps = rw ei at steps; start = λ d e. ap (λ (x : ℕ). get_or b.start x 0) (asks.cell d e) };
-            back = rw (ek, ei) refl;
-          })
+      done = by.done
 
       -- where the move marks, the lists and what the job shows are fit for it
-      pub may_mark : m.marks ≡ true → (old new : Shows) → old ≡ shows_of own → new ≡ shows_of m.own
-          → (b.count ≤ 16) × ListsFit (set b.reads i m.own.list) b.count × Shown old × Shown new
-      may_mark e old new eold enew = (
-        whole.sized.count,
-        record { few = λ j l. few j l (ℕ_discrete j i) },
-        rw (eold, own_is) (whole.sized.showing.showing (t - 1) inner),
-        rw enew (done.shown e),
-      )
+      pub may_mark : MayMark m own b.reads b.count i
+      may_mark = record {
+        count = λ e. whole.sized.count;
+        lists = λ e. record { few = λ j l. few e j l (ℕ_discrete j i) };
+        before = λ e. rw own_is (whole.sized.showing.showing (t - 1) inner);
+        after = λ e. done.shown e;
+      }
         where
-          few : (j : ℕ) → j < b.count → Dec (j ≡ i) → (get_or (set b.reads i m.own.list) j no_reads).size ≤ 8
-          few j l (yes q) = rw (q, get_or-set_same b.reads i m.own.list no_reads (omega (arith, ei, inner, long.reads, whole.sized.count))) (done.few e)
-          few j l (no n) = rw (get_or-set_other b.reads i j m.own.list no_reads n) (whole.sized.lists.few j l)
+          few : m.marks ≡ true → (j : ℕ) → j < b.count → Dec (j ≡ i) → (get_or (set b.reads i m.own.list) j no_reads).size ≤ 8
+          few e j l (yes q) = rw (q, get_or-set_same b.reads i m.own.list no_reads (omega (arith, ei, inner, long.reads, whole.sized.count))) (done.few e)
+          few e j l (no n) = rw (get_or-set_other b.reads i j m.own.list no_reads n) (whole.sized.lists.few j l)
 
       module _ (ls : List Reads) (el : ls ≡ marked_by m.marks (set b.reads i m.own.list) b.count (shows_of own) (shows_of m.own) t) where
         stored_is : placed b t m ≡ stored_at b i s m ls
@@ -144,7 +140,7 @@ module _ (b : Block) (t : ℕ) (mine : foreign b.count t ≡ false) (fit : E.blo
 
             other : (k : ℕ) → get_or b.status k 0 < 2 → Dec (k ≡ i) → get_or (set b.status i m.own.status) k 0 ≤ 2
             other k l (yes q) =
-                rw (q, get_or-set_same b.status i m.own.status 0 (omega (arith, ei, inner, long.status, whole.sized.count))) (stored (rw q at l) moves.status)
+                rw (q, get_or-set_same b.status i m.own.status 0 (omega (arith, ei, inner, long.status, whole.sized.count))) (stored (rw q at l) by.status)
             other k l (no n) = rw (get_or-set_other b.status i k m.own.status 0 n) (omega arith)
 
         pub stored_turn : Turns b t (record { word = m.word; block = stored_at b i s m ls })
@@ -164,9 +160,6 @@ module _ (b : Block) (t : ℕ) (mine : foreign b.count t ≡ false) (fit : E.blo
         }
 
 -- ---- a turn that may be refused
-pub taken_step : (refused : Option Word) (j : Program) (s : State) (r : Stepped) → StepsIn (program_of j) s r → StepsIf refused j s r
-taken_step refused j s r h = record { cells = steps_cells (program_of j) s r h; steps = λ q. h }
-
 -- the parts of a refused turn are stored as they were
 stored_refused : (b : Block) (t i s : ℕ) (fits : Bool) → fits ≡ E.block_fits limits box (block_of b) → (w : Word) → refusing b.count t fits ≡ Some w
     → (own : Own) → own ≡ parts_at b i s → (m : Move) → m ≡ still w own → (ls : List Reads)
@@ -187,22 +180,19 @@ module _ (b : Block) (t : ℕ) (fits : Bool) (ef : fits ≡ E.block_fits limits 
   index_own : (i : ℕ) → i ≡ index_if refused t → refused ≡ None → i ≡ t - 1
   index_own i ei q = ei ∙ rw q refl
 
-  pub standing_if : (i : ℕ) → i ≡ index_if refused t → refused ≡ None → ((get_or b.states i no_state).place.0 < (get_or b.jobs i no_program).size) × ((get_or b.jobs i no_program).size ≤ LONGEST)
-  standing_if i ei q = standing b t (mine_if q) (fit_if q) i (index_own i ei q)
+  module _ (long : Long b) (i s : ℕ) (ei : i ≡ index_if refused t) (es : s ≡ slot_at i (get_or b.reads i no_reads).size) (own : Own) (eo : own ≡ parts_at b i s) where
+    pub may_move_if : refused ≡ None → MayMove b t i own
+    may_move_if q = record { mine = mine_if q; fit = fit_if q; index = index_own i ei q; own = rw (← es) eo }
 
-  module _ (long : Long b) (i s k : ℕ) (ei : i ≡ index_if refused t) (es : s ≡ slot_at i (get_or b.reads i no_reads).size) (ek : k ≡ slot_at i (get_or b.reads i no_reads).mark)
-      (own : Own) (around : Around) (eo : own ≡ parts_at b i s) (ea : around ≡ around_of b) where
-    pub ready_if : refused ≡ None → Ready own around t
-    ready_if q = ready b t (mine_if q) (fit_if q) long i s k (index_own i ei q) es ek own around eo ea
-
-    module _ (step : Stepped) (steps : StepsIf refused (get_or b.jobs i no_program) (get_or b.states i no_state) step) (c : ℕ) (asks : Asks step c)
-        (m : Move) (moves : MovesIf refused own (AtTurn step around (get_or b.start c 0) (get_or b.checkpoints k no_checkpoint) t) m) where
+    module _ (m : Move) (moves : MovesIf refused b t own m) where
       pub may_mark_if : MayMark m own b.reads b.count i
-      may_mark_if = record { count = λ e. (at e refused refl).0; lists = λ e. (at e refused refl).1; before = λ e. (at e refused refl).2; after = λ e. (at e refused refl).3 }
+      may_mark_if = at refused refl
         where
-          at : m.marks ≡ true → (x : Option Word) → refused ≡ x → (b.count ≤ 16) × ListsFit (set b.reads i m.own.list) b.count × Shown (shows_of own) × Shown (shows_of m.own)
-          at e (Some w) q = let quiet : m.marks ≡ false = rw (moves.stays w q) refl in not_both (sym quiet ∙ e)
-          at e None q = may_mark b t (mine_if q) (fit_if q) long i s k (index_own i ei q) es ek own around eo ea step (steps.steps q) c asks m (moves.moves q) e _ _ refl refl
+          at : (x : Option Word) → refused ≡ x → MayMark m own b.reads b.count i
+          at (Some w) q =
+              let quiet : m.marks ≡ true → ⊥ = λ e. let still : m.marks ≡ false = rw (moves.stays w q) refl in not_both (sym still ∙ e) in
+              record { count = λ e. absurd (quiet e); lists = λ e. absurd (quiet e); before = λ e. absurd (quiet e); after = λ e. absurd (quiet e) }
+          at None q = may_mark b t (mine_if q) (fit_if q) long i s (index_own i ei q) es own eo m (moves.moves q)
 
       turned_if : (ls : List Reads) → ls ≡ marked_by m.marks (set b.reads i m.own.list) b.count (shows_of own) (shows_of m.own) t
           → Turns b t (record { word = m.word; block = stored_at b i s m ls })
@@ -210,7 +200,33 @@ module _ (b : Block) (t : ℕ) (fits : Bool) (ef : fits ≡ E.block_fits limits 
         where
           go : (x : Option Word) → refused ≡ x → Turns b t (record { word = m.word; block = stored_at b i s m ls })
           go (Some w) q = stored_refused b t i s fits ef w (sym er ∙ q) own eo m (moves.stays w q) ls el
-          go None q = stored_turn b t (mine_if q) (fit_if q) long i s k (index_own i ei q) es ek own around eo ea step (steps.steps q) c asks m (moves.moves q) ls el
+          go None q = stored_turn b t (mine_if q) (fit_if q) long i s (index_own i ei q) es own eo m (moves.moves q) ls el
 
       pub changes_if : i < 16 → s < 128 → (r : Change) → r ≡ change_by i s m (marked_by m.marks (set b.reads i m.own.list) b.count (shows_of own) (shows_of m.own) t) → Changes b t r
       changes_if li ls r e = rw e (record { index = rw (← ef, ← er) ei; slot = rw (← ef, ← er, ← ei) es; inside = li; within = ls; turns = turned_if _ refl })
+
+-- ---- a turn in the block where it stands
+module _ (b : Block) (fits : Bool) (t : ℕ) (ef : fits ≡ E.block_fits limits box (block_of b)) (long : Long b) where
+  pub in_refused : (w : Word) → Some w ≡ refusing b.count t fits → TurnsIn b fits t (record { block = b; word = w })
+  in_refused w q = record { turns = turn_refused b t fits ef w (sym q); long = long; fitting = ef }
+
+  pub in_own : None ≡ refusing b.count t fits → (foreign b.count t ≡ false) × (E.block_fits limits box (block_of b) ≡ true)
+  in_own q = let own = not_refused fits b.count t (sym q) in (own.0, sym ef ∙ own.1)
+
+  module _ (i s : ℕ) (es : s ≡ slot_at i (get_or b.reads i no_reads).size) (own : Own) (eo : own ≡ parts_at b i s) where
+    pub in_move : None ≡ refusing b.count t fits → i ≡ t - 1 → MayMove b t i own
+    in_move q ei = let mine = in_own q in record { mine = mine.0; fit = mine.1; index = ei; own = rw (← es) eo }
+
+    module _ (may : MayMove b t i own) (m : Move) (by : MovesBy b t own m) where
+      pub in_mark : MayMark m own b.reads b.count i
+      in_mark = may_mark b t may.mine may.fit long i s may.index es own eo m by
+
+      pub in_stored : (ls : List Reads) → ls ≡ marked_by m.marks (set b.reads i m.own.list) b.count (shows_of own) (shows_of m.own) t
+          → TurnsIn b fits t (record { block = stored_at b i s m ls; word = m.word })
+      in_stored ls el =
+          let turns = stored_turn b t may.mine may.fit long i s may.index es own eo m by ls el in
+          record {
+            turns = turns;
+            long = stored_long b t may.mine may.fit long i s may.index es own eo m by ls el;
+            fitting = ef ∙ may.fit ∙ sym (ap (E.block_fits limits box) turns.block ∙ turn_fits limits box box_promise (block_of b) t may.fit);
+          }

@@ -3,11 +3,14 @@
 use borrow.Author.Rules.{rules}
 use native.Mathlib.Omega.{arith}
 use Rattle.rules.proofs.Laws.Arrays.{array_laws}
-use Rattle.rules.proofs.Laws.Sizes.{chunk_is, test_start, test_on, test_end}
+use Rattle.rules.proofs.Laws.Sizes.{chunk_is, test_start, test_many, test_on, test_end}
 use Rattle.turns.proofs.sizes.block_fits.Goals as goal
 
+pub returns-then-b-gt-MOST : goal.returns-then-b-gt-MOST
+returns-then-b-gt-MOST c = test_many _ c.if-b-gt-MOST.true
+
 pub loop-k-init : goal.loop-k-init
-loop-k-init c = test_start _ _ c.jobs_in-k-end.ensures
+loop-k-init c = test_start _ _ c.from-k-end.ensures c.if-b-gt-MOST.false
 
 pub loop-k-preserved : goal.loop-k-preserved
 loop-k-preserved c =

@@ -7,4 +7,4 @@ use Rattle.rules.proofs.Laws.Own.{listed_is}
 use Rattle.rules.proofs.block.Reads.value_for.Goals as goal
 
 pub returns : goal.returns
-returns c = c.value_in.ensures ∙ listed_is c.args.self c.args.c.0 (search (array_laws, rules)) c.requires
+returns c = (rw c.from.ensures at c.value_in.ensures) ∙ listed_is c.args.self c.args.c.0 (search (array_laws, rules)) c.requires

@@ -1,2 +1,0 @@
--- Each part that the turn changes
--- is stored where it stood.
