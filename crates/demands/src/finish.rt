@@ -53,7 +53,9 @@ pub fn finish(
     let opened = open(start, paper);
     opened.answer?;
     let taken = take_turns(opened.block, tickets, words);
-    taken.answer?;
+    if let Err(refusal) = taken.answer {
+        return Err(FinishRefusal::from(refusal));
+    }
     let f = settled_table(taken.block, table).unwrap();
     Ok(f)
 }

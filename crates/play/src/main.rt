@@ -2,7 +2,7 @@
 // program with its error.
 #![tactic(auto)]
 
-ghost use Rattle.std.specs.Prelude.{◌≤◌, IfOk, length};
+ghost use Rattle.std.specs.Prelude.{◌≡◌, ◌≤◌, IfOk, length};
 
 use sessions::play::play;
 use std::io;
@@ -29,10 +29,16 @@ const TEXT: usize = 204032;
 
 const INPUT: usize = 16385;
 
+fn room() -> [u8; TEXT]
+    ensures { 204032 ≡ length result }
+{
+    [0; TEXT]
+}
+
 fn main(rt: HostRuntime) -> io::Result<()> {
     let (mut stdin, mut stdout) = (rt.stdin(), rt.stdout());
     let mut input = [0; INPUT];
-    let mut output = [0; TEXT];
+    let mut output = room();
     let n = read_full(&mut stdin, &mut input)?;
     // What is left is read too, so that whoever writes to us is not cut off
     io::copy(&mut stdin, &mut io::sink())?;

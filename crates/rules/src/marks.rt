@@ -17,9 +17,9 @@ pub struct Shows {
 
 impl Shows {
     // The entry from which a cell is shown.
-    fn entry_for(self, c: Cell) -> Option<u8>
-        requires { Shown self }
-        ensures { result ≡ shown_in self c.0 }
+    fn entry_for(&self, c: Cell) -> Option<u8>
+        requires { Shown self.now }
+        ensures { result ≡ shown_in self.now c.0 }
     {
         for k in 0..self.versions.size {
             let number = self.versions.numbers[usize::from(k)];
@@ -31,9 +31,9 @@ impl Shows {
     }
 
     // The value of a cell's public version, where there is one.
-    pub(crate) fn value_for(self, c: Cell) -> Option<u64>
-        requires { Shown self }
-        ensures { result ≡ value_at (journal_of self.journal) (shown_in self c.0) }
+    pub(crate) fn value_for(&self, c: Cell) -> Option<u64>
+        requires { Shown self.now }
+        ensures { result ≡ value_at (journal_of self.now.journal) (shown_in self.now c.0) }
     {
         let number = self.entry_for(c)?;
         Some(self.journal.entry_at(number).value)
@@ -64,8 +64,8 @@ pub struct Changed {
 
 impl Changed {
     // Whether a higher job's listed read is to be marked.
-    fn strikes(self, r: Read) -> bool
-        ensures { result ≡ struck_by self.old self.new self.ticket.0 r }
+    fn strikes(&self, r: Read) -> bool
+        ensures { result ≡ struck_by self.now.old self.now.new self.now.ticket.0 r }
     {
         let before = self.old.entry_for(r.cell);
         let after = self.new.entry_for(r.cell);
@@ -73,9 +73,9 @@ impl Changed {
     }
 
     // The mark of a higher job after that: of two marks the earlier.
-    fn mark_after(self, reads: Reads) -> u8
-        requires { reads.size ≤ 8 }
-        ensures { result ≡ mark_by self.old self.new self.ticket.0 reads }
+    fn mark_after(&self, reads: &Reads) -> u8
+        requires { reads.now.size ≤ 8 }
+        ensures { result ≡ mark_by self.now.old self.now.new self.now.ticket.0 reads.now }
     {
         for k in 0..reads.size {
             if self.strikes(reads.reads[usize::from(k)]) {
@@ -85,24 +85,24 @@ impl Changed {
         reads.mark
     }
 
-    fn marked(self, reads: Reads) -> Reads
+    fn marked(&self, reads: Reads) -> Reads
         requires { reads.size ≤ 8 }
-        ensures { result ≡ mark_reads self.old self.new self.ticket.0 reads }
+        ensures { result ≡ mark_reads self.now.old self.now.new self.now.ticket.0 reads }
     {
         Reads {
-            mark: self.mark_after(reads),
+            mark: self.mark_after(&reads),
             ..reads
         }
     }
 
     // Marks each job above the ticket.
     pub fn mark_above(
-        self,
+        &self,
         mut lists: [Reads; Job::MOST as usize],
         count: u8,
     ) -> [Reads; Job::MOST as usize]
         requires { (count ≤ 16) × ListsFit lists count }
-        ensures { result ≡ sweep (mark_reads self.old self.new self.ticket.0) self.ticket.0 (count - self.ticket.0) lists }
+        ensures { result ≡ sweep (mark_reads self.now.old self.now.new self.now.ticket.0) self.now.ticket.0 (count - self.now.ticket.0) lists }
     {
         for k in self.ticket.0..count {
             lists[usize::from(k)] = self.marked(lists[usize::from(k)]);

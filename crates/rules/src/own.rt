@@ -70,8 +70,8 @@ impl Own {
     }
 
     // From where the job shows each cell.
-    pub fn shows(self) -> Shows
-        ensures { result ≡ shows_of self }
+    pub fn shows(&self) -> Shows
+        ensures { result ≡ shows_of self.now }
     {
         Shows {
             journal: self.journal,
@@ -80,9 +80,9 @@ impl Own {
     }
 
     // What the job holds of a cell itself: its own last entry, failing that its own listed read.
-    fn value_for(self, c: Cell) -> Option<u64>
-        requires { (self.journal.size ≤ 8) × (self.list.size ≤ 8) }
-        ensures { result ≡ or_else (last_value (journal_of self.journal) c.0) (listed_in self.list c.0) }
+    fn value_for(&self, c: Cell) -> Option<u64>
+        requires { (self.now.journal.size ≤ 8) × (self.now.list.size ≤ 8) }
+        ensures { result ≡ or_else (last_value (journal_of self.now.journal) c.0) (listed_in self.now.list c.0) }
     {
         self.journal
             .last_value(c)
@@ -90,50 +90,50 @@ impl Own {
     }
 
     // A turn after which nobody is marked.
-    pub fn stay(self, word: Word) -> Move
-        ensures { result ≡ still word self }
+    pub fn stay(&self, word: Word) -> Move
+        ensures { result ≡ still word self.now }
     {
         Move {
-            own: self,
+            own: *self,
             word,
             marks: false,
         }
     }
 
     // A turn that may change what is public.
-    fn then_mark(self, word: Word) -> Move
-        ensures { result ≡ publishing word self }
+    fn then_mark(&self, word: Word) -> Move
+        ensures { result ≡ publishing word self.now }
     {
         Move {
-            own: self,
+            own: *self,
             word,
             marks: true,
         }
     }
 
-    fn step_to(self, state: State) -> Move
-        ensures { result ≡ stepped self state }
+    fn step_to(&self, state: State) -> Move
+        ensures { result ≡ stepped self.now state }
     {
-        Own { state, ..self }.stay(Word::Step)
+        Own { state, ..*self }.stay(Word::Step)
     }
 
-    fn write_to(self, state: State, e: Entry) -> Move
-        requires { self.journal.size < 8 }
-        ensures { Wrote self state e result }
+    fn write_to(&self, state: State, e: Entry) -> Move
+        requires { self.now.journal.size < 8 }
+        ensures { Wrote self.now state e result }
     {
         let journal = self.journal.with_entry(e);
         Own {
             state,
             journal,
-            ..self
+            ..*self
         }
         .stay(Word::Step)
     }
 
     // The read is listed, with its checkpoint: the state before it, the journal's length and the number of listed reads.
-    fn list_to(self, state: State, x: Read) -> Move
-        requires { self.list.size < 8 }
-        ensures { Lists self state x result }
+    fn list_to(&self, state: State, x: Read) -> Move
+        requires { self.now.list.size < 8 }
+        ensures { Lists self.now state x result }
     {
         let slot = Checkpoint {
             state: self.state,
@@ -145,36 +145,36 @@ impl Own {
             state,
             list,
             slot,
-            ..self
+            ..*self
         }
         .stay(Word::Step)
     }
 
-    fn end_with(self, versions: Versions) -> Move
-        ensures { result ≡ ended self versions }
+    fn end_with(&self, versions: Versions) -> Move
+        ensures { result ≡ ended self.now versions }
     {
         Own {
             status: Block::ENDED,
             versions,
-            ..self
+            ..*self
         }
         .then_mark(Word::End)
     }
 
-    fn settle(self) -> Move
-        ensures { result ≡ settled_own self }
+    fn settle(&self) -> Move
+        ensures { result ≡ settled_own self.now }
     {
         Own {
             status: Block::FINAL,
-            ..self
+            ..*self
         }
         .stay(Word::Final)
     }
 
     // A marked job goes back to the checkpoint of its earliest marked read.
-    fn back_to(self, c: Checkpoint) -> Move
-        requires { self.versions.size ≤ 8 }
-        ensures { Goes self c result }
+    fn back_to(&self, c: Checkpoint) -> Move
+        requires { self.now.versions.size ≤ 8 }
+        ensures { Goes self.now c result }
     {
         let journal = Journal {
             size: c.writes,
@@ -191,13 +191,13 @@ impl Own {
             journal,
             versions: self.versions.withdraw(c.writes),
             list,
-            ..self
+            ..*self
         }
         .then_mark(Word::Back)
     }
 
-    fn write_cell(self, next: State, e: Entry) -> Move
-        ensures { Moves self AtWrite (λ b i. writing b i next e) result }
+    fn write_cell(&self, next: State, e: Entry) -> Move
+        ensures { Moves self.now AtWrite (λ b i. writing b i next e) result }
     {
         if Job::FEW <= self.journal.size {
             self.stay(Word::Stuck)
@@ -262,11 +262,14 @@ fn value_in(reads: &[Read], c: Cell) -> Option<u64>
     reads.iter().find(|x| x.cell == c).map(|x| x.value)
 }
 
-// Whether the jobs of these statuses are all final.
+// Whether the jobs of these statuses are all final: from the last, the likeliest not to be, by recursion on those below it.
 fn all_final(status: &[u8]) -> bool
     ensures { result ≡ list_all (λ s. nat_le 2 s) status.now }
 {
-    status.iter().all(|s| Block::FINAL <= *s)
+    match status {
+        [] => true,
+        [below @ .., last] => Block::FINAL <= *last && all_final(below),
+    }
 }
 
 // The cell that an instruction reads; 0 if it reads none.
@@ -280,28 +283,28 @@ pub fn cell_read(step: Stepped) -> usize
     }
 }
 
-// A job whose turn it is: its parts, what it sees of all, the start value of the cell that it would read, and its ticket.
-// The parts are read where they stand: a turn that held them would copy them.
+// A job whose turn it is: its parts, the block that it stands in, the start value of the cell that it would read, and its ticket.
+// Parts and block are read where they stand: a turn that held them would copy them.
 #[derive(Clone, Copy)]
 pub struct Turning<'a> {
     pub own: &'a Own,
-    pub around: &'a Around,
+    pub block: &'a Block,
     pub first: u64,
     pub ticket: Ticket,
-    ghost ready: { Ready own.now around.now ticket.0 },
+    ghost ready: { Ready own.now (around_of block.now) ticket.0 },
 }
 
 impl Turning<'_> {
     // READ from outside: the version found is listed, if there is room.
     fn read_outside(self, next: State, c: Cell) -> Move
-        ensures { Moves self.entry.own.now (AtRead self.entry.around.now self.entry.first self.entry.ticket.0 next c.0) (λ b i. outside b i c.0) result }
+        ensures { Moves self.entry.own.now (AtRead (around_of self.entry.block.now) self.entry.first self.entry.ticket.0 next c.0) (λ b i. outside b i c.0) result }
     {
         let own = self.own;
         if Job::FEW <= own.list.size {
             return own.stay(Word::Stuck);
         }
         let lower = Ticket(self.ticket.0 - 1);
-        let found = self.around.find_version(self.first, c, lower);
+        let found = Around::of(self.block).find_version(self.first, c, lower);
         let x = Read {
             cell: c,
             source: found.source,
@@ -312,7 +315,7 @@ impl Turning<'_> {
 
     // READ of a cell: the job's own value, or one from outside.
     fn read_cell(self, next: State, c: Cell) -> Move
-        ensures { Moves self.entry.own.now (AtRead self.entry.around.now self.entry.first self.entry.ticket.0 next c.0) (λ b i. reading b i c.0) result }
+        ensures { Moves self.entry.own.now (AtRead (around_of self.entry.block.now) self.entry.first self.entry.ticket.0 next c.0) (λ b i. reading b i c.0) result }
     {
         let Some(v) = self.own.value_for(c) else {
             return self.read_outside(next, c);
@@ -322,7 +325,7 @@ impl Turning<'_> {
 
     // One instruction of a running job that is not marked, or its end.
     fn step_or_end(self, step: Stepped) -> Move
-        ensures { Moves self.entry.own.now (AtStep step self.entry.around.now self.entry.first self.entry.ticket.0) stepping result }
+        ensures { Moves self.entry.own.now (AtStep step (around_of self.entry.block.now) self.entry.first self.entry.ticket.0) stepping result }
     {
         let own = self.own;
         let next = step.state;
@@ -339,19 +342,21 @@ impl Turning<'_> {
     // Document 01's rules, tried in order, for a job of a block that fits: with the step that it would take, and the checkpoint
     // of its mark.
     pub fn take(self, step: Stepped, back: Checkpoint) -> Move
-        ensures { Moves self.entry.own.now (AtTurn step self.entry.around.now self.entry.first back self.entry.ticket.0) moving result }
+        ensures { Moves self.entry.own.now (AtTurn step (around_of self.entry.block.now) self.entry.first back self.entry.ticket.0) moving result }
     {
         let own = self.own;
         if Block::FINAL <= own.status {
-            own.stay(Word::Idle)
-        } else if own.list.mark != Reads::UNMARKED {
-            own.back_to(back)
-        } else if own.status == Block::RUNNING {
-            self.step_or_end(step)
-        } else if all_final(&self.around.status[..usize::from(self.ticket.0 - 1)]) {
-            own.settle()
-        } else {
-            own.stay(Word::Wait)
+            return own.stay(Word::Idle);
         }
+        if own.list.mark != Reads::UNMARKED {
+            return own.back_to(back);
+        }
+        if own.status == Block::RUNNING {
+            return self.step_or_end(step);
+        }
+        if all_final(&self.block.status[..usize::from(self.ticket.0 - 1)]) {
+            return own.settle();
+        }
+        own.stay(Word::Wait)
     }
 }

@@ -31,12 +31,14 @@ impl Program {
         let mut p = Program::stops(job.size);
         for k in 0..usize::from(job.size) {
             let Instruction { code, operand } = job.code[k];
-            p.codes[k] = code;
-            if code == Instruction::PUSH {
-                p.pushed[k] = operand;
+            let (argument, pushed) = if code == Instruction::PUSH {
+                (0, operand)
             } else {
-                p.arguments[k] = u8::try_from(operand).unwrap_or(0);
-            }
+                (u8::try_from(operand).unwrap_or(0), 0)
+            };
+            p.codes[k] = code;
+            p.arguments[k] = argument;
+            p.pushed[k] = pushed;
         }
         p
     }

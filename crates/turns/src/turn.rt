@@ -1,5 +1,5 @@
 // One turn of a block in work.
-ghost use Rattle.std.specs.Prelude.{◌≡◌, ◌-◌, ◌≤◌, ◌<◌, set};
+ghost use Rattle.std.specs.Prelude.{◌≡◌, false, true, ◌-◌, ◌≤◌, ◌<◌, set};
 ghost use Rattle.rules.specs.Turn.{foreign, Turns};
 ghost use Rattle.theory.specs.Engine.{block_fits};
 ghost use Rattle.rules.specs.Box.{limits, box};
@@ -12,7 +12,7 @@ use machine::counts::Ticket;
 use machine::job::{Job, State};
 use rules::block::{Block, Checkpoint, Journal, Reads, Turned, Versions};
 use rules::marks::Changed;
-use rules::own::{Around, Move, Own, Turning, cell_read, slot_of};
+use rules::own::{Move, Own, Turning, cell_read, slot_of};
 use words::word::Word;
 
 // What a turn changes of a block: the parts of the job at an index, the checkpoint in a slot, and the lists of reads, among
@@ -78,7 +78,7 @@ fn move_of(b: &Block, t: Ticket, i: usize, own: &Own) -> Move
     let step = b.jobs[i].step(own.state);
     let taking = Turning {
         own,
-        around: &Around::of(b),
+        block: b,
         first: b.start[cell_read(step)],
         ticket: t,
     };
@@ -162,15 +162,11 @@ pub fn change_of(b: &Block, t: Ticket) -> Change
     change_by(done, own, b.reads, b.count, t, i, slot)
 }
 
-// Ticket t takes one turn in the block where it stands: 14 for a ticket that is none of the block's, 20 for a block that does not
-// fit, and else the rules.
-pub(crate) fn take_turn(b: &mut Block, fits: bool, t: Ticket) -> Word
-    requires { (fits ≡ block_fits limits box (block_of b.old)) × Long b.old }
-    ensures { TurnsIn b.old fits t.0 (record { block = b.new; word = result }) }
+// A turn that neither 14 nor 20 refuses, in the block where it stands.
+fn take_own_turn(b: &mut Block, t: Ticket) -> Word
+    requires { (foreign b.old.count t.0 ≡ false) × (block_fits limits box (block_of b.old) ≡ true) × Long b.old }
+    ensures { TurnsIn b.old true t.0 (record { block = b.new; word = result }) }
 {
-    if let Some(word) = refusal(t, b.count, fits) {
-        return word;
-    }
     let i = index_of(t);
     let slot = slot_of(i, b.reads[i].size);
     let own = Own::of(b, i, slot);
@@ -183,6 +179,18 @@ pub(crate) fn take_turn(b: &mut Block, fits: bool, t: Ticket) -> Word
     b.checkpoints[slot] = after.slot;
     list_reads(&done, &own, &mut b.reads, b.count, t, i);
     done.word
+}
+
+// Ticket t takes one turn in the block where it stands: 14 for a ticket that is none of the block's, 20 for a block that does not
+// fit, and else the rules, in a function of their own, since a function pays at entry for all that it holds.
+pub(crate) fn take_turn(b: &mut Block, fits: bool, t: Ticket) -> Word
+    requires { (fits ≡ block_fits limits box (block_of b.old)) × Long b.old }
+    ensures { TurnsIn b.old fits t.0 (record { block = b.new; word = result }) }
+{
+    match refusal(t, b.count, fits) {
+        Some(word) => word,
+        None => take_own_turn(b, t),
+    }
 }
 
 // Ticket t takes one turn.

@@ -31,14 +31,6 @@ module _ {A : Type 0} (z : A) (f : ℕ → A) (n : ℕ) where
         below i (yes q) m = rw q (get_or-set_same xs k x z (omega (arith, l, g.long)) ∙ e)
         below i (no q) m = get_or-set_other xs k i x z q ∙ g.below i (omega (arith, m, q))
 
-    -- an entry that is there already
-    pub fill_past : k < n → f k ≡ z → Filling z f n (k + 1) xs
-    fill_past l e = record { long = g.long; below = λ i m. below i (ℕ_discrete i k) (omega (arith, m)); rest = λ i m o. g.rest i (omega (arith, m)) o }
-      where
-        below : (i : ℕ) → Dec (i ≡ k) → i ≤ k → get_or xs i z ≡ f i
-        below i (yes q) m = rw q (g.rest k (omega arith) l ∙ sym e)
-        below i (no q) m = g.below i (omega (arith, m, q))
-
     pub fill_end : ((i : ℕ) → k ≤ i → i < n → f i ≡ z) → xs ≡ tab n f
     fill_end h = ext_get_or z xs (tab n f) (g.long ∙ sym (length_tab n f)) (λ i l. at i (rw g.long at l) (dec_lt i k))
       where

@@ -1,5 +1,5 @@
 -- What a job holds itself, its last entry for a cell and its listed read of it, and whether the lower jobs are final:
--- the chains ask the list of an array's first, and the definitions its places one by one.
+-- the code asks the list of an array's first, and the definitions its places one by one.
 use mathlib.Core.Path.{◌≡◌, refl, sym, ◌∙◌}
 use mathlib.Core.Bool.{Bool, true, false, cond, ◌&&◌}
 use Rattle.std.specs.Prelude.{Option, None, Some}

@@ -25,7 +25,7 @@ use Rattle.rules.specs.Program.{stops_of, argument_of, pushed_of, packed, operan
 use Rattle.rules.specs.Steps.{StepsIn, Passes, AllPass}
 use Rattle.rules.specs.Sizes.{instruction_within, by_code, keeps_at}
 use Rattle.rules.specs.declared.block.Program.{Program}
-use Rattle.rules.proofs.Laws.Filled.{Filling, fill_start, fill_on, fill_past, fill_end, tab_get_d}
+use Rattle.rules.proofs.Laws.Filled.{Filling, fill_start, fill_on, fill_end, tab_get_d}
 use Rattle.rules.proofs.Laws.Code.{bounds_are}
 
 -- ---- a byte holds an operand that is not PUSH's
@@ -84,6 +84,13 @@ module _ (job : Job) (pass : Passes job) where
   passed_small k l n = small job.size k _ _ passed_few (passed_within k l) (ne_eqb _ 2 n)
 
 -- ---- a program, instruction by instruction
+module _ (i : Instruction) where
+  pub slots_push : i.code ≡ 2 → (0 ≡ argument_of i) × (i.operand ≡ pushed_of i)
+  slots_push e = rw e (refl, refl)
+
+  pub slots_other : (i.code ≡ 2 → ⊥) → (a : ℕ) → a ≡ i.operand → (a ≡ argument_of i) × (0 ≡ pushed_of i)
+  slots_other n a e = rw (ne_eqb _ 2 n) (e, refl)
+
 abbrev at : Job → ℕ → Instruction
 at job k = get_or (code_of job) k stopping
 
@@ -109,22 +116,12 @@ module _ (job : Job) (pass : Passes job) where
       codes_on : Filling 0 (λ i. (at job i).code) LONGEST (k + 1) (set p.codes k (get_or job.code k stopping).code)
       codes_on = fill_on 0 _ LONGEST k p.codes g.codes low _ (ap (λ (i : Instruction). i.code) same)
 
-      pub pack_push : (get_or job.code k stopping).code ≡ 2
-          → Packing job (record p { codes = set p.codes k (get_or job.code k stopping).code; pushed = set p.pushed k (get_or job.code k stopping).operand }) (k + 1)
-      pack_push e = record {
+      pub pack_on : (a q : ℕ) → a ≡ argument_of (get_or job.code k stopping) → q ≡ pushed_of (get_or job.code k stopping)
+          → Packing job (record p { codes = set p.codes k (get_or job.code k stopping).code; arguments = set p.arguments k a; pushed = set p.pushed k q }) (k + 1)
+      pack_on a q ea eq = record {
         codes = codes_on;
-        arguments = fill_past 0 _ LONGEST k p.arguments g.arguments low (rw (← same, e) refl);
-        pushed = fill_on 0 _ LONGEST k p.pushed g.pushed low _ (rw (← same, e) refl);
-        size = g.size;
-        few = g.few;
-      }
-
-      pub pack_other : ((get_or job.code k stopping).code ≡ 2 → ⊥) → (a : ℕ) → a ≡ (get_or job.code k stopping).operand
-          → Packing job (record p { codes = set p.codes k (get_or job.code k stopping).code; arguments = set p.arguments k a }) (k + 1)
-      pack_other n a e = record {
-        codes = codes_on;
-        arguments = fill_on 0 _ LONGEST k p.arguments g.arguments low a (e ∙ rw (← same, ne_eqb _ 2 n) refl);
-        pushed = fill_past 0 _ LONGEST k p.pushed g.pushed low (rw (← same, ne_eqb _ 2 n) refl);
+        arguments = fill_on 0 _ LONGEST k p.arguments g.arguments low a (ea ∙ ap argument_of same);
+        pushed = fill_on 0 _ LONGEST k p.pushed g.pushed low q (eq ∙ ap pushed_of same);
         size = g.size;
         few = g.few;
       }

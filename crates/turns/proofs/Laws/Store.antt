@@ -27,6 +27,7 @@ use Rattle.rules.specs.Own.{still, slot_at, parts_at, own_of, shows_of, marked_b
 use Rattle.turns.specs.Change.{refusing, index_if, MayMove, MovesBy, MovesIf, change_by, Changes, TurnsIn}
 use Rattle.rules.specs.declared.block.Reads.{Reads}
 use Rattle.rules.specs.declared.block.Block.{Block}
+use Rattle.rules.specs.declared.block.Turned.{Turned}
 use Rattle.rules.specs.declared.marks.Shows.{Shows}
 use Rattle.rules.specs.declared.own.Own.{Own}
 use Rattle.rules.specs.declared.own.Around.{Around}
@@ -206,6 +207,26 @@ module _ (b : Block) (t : ℕ) (fits : Bool) (ef : fits ≡ E.block_fits limits 
       changes_if li ls r e = rw e (record { index = rw (← ef, ← er) ei; slot = rw (← ef, ← er, ← ei) es; inside = li; within = ls; turns = turned_if _ refl })
 
 -- ---- a turn in the block where it stands
+module _ (b : Block) (t : ℕ) (mine : foreign b.count t ≡ false) (fit : E.block_fits limits box (block_of b) ≡ true) (long : Long b) (i s : ℕ)
+    (es : s ≡ slot_at i (get_or b.reads i no_reads).size) (own : Own) (eo : own ≡ parts_at b i s) where
+  pub in_move : i ≡ t - 1 → MayMove b t i own
+  in_move ei = record { mine = mine; fit = fit; index = ei; own = rw (← es) eo }
+
+  module _ (ei : i ≡ t - 1) (m : Move) (by : MovesBy b t own m) where
+    pub in_mark : MayMark m own b.reads b.count i
+    in_mark = may_mark b t mine fit long i s ei es own eo m by
+
+    pub in_stored : (ls : List Reads) → ls ≡ marked_by m.marks (set b.reads i m.own.list) b.count (shows_of own) (shows_of m.own) t
+        → TurnsIn b true t (record { block = stored_at b i s m ls; word = m.word })
+    in_stored ls el =
+        let turns = stored_turn b t mine fit long i s ei es own eo m by ls el in
+        record {
+          turns = turns;
+          long = stored_long b t mine fit long i s ei es own eo m by ls el;
+          fitting = sym (ap (E.block_fits limits box) turns.block ∙ turn_fits limits box box_promise (block_of b) t fit);
+        }
+
+-- .. which may be refused
 module _ (b : Block) (fits : Bool) (t : ℕ) (ef : fits ≡ E.block_fits limits box (block_of b)) (long : Long b) where
   pub in_refused : (w : Word) → Some w ≡ refusing b.count t fits → TurnsIn b fits t (record { block = b; word = w })
   in_refused w q = record { turns = turn_refused b t fits ef w (sym q); long = long; fitting = ef }
@@ -213,20 +234,5 @@ module _ (b : Block) (fits : Bool) (t : ℕ) (ef : fits ≡ E.block_fits limits 
   pub in_own : None ≡ refusing b.count t fits → (foreign b.count t ≡ false) × (E.block_fits limits box (block_of b) ≡ true)
   in_own q = let own = not_refused fits b.count t (sym q) in (own.0, sym ef ∙ own.1)
 
-  module _ (i s : ℕ) (es : s ≡ slot_at i (get_or b.reads i no_reads).size) (own : Own) (eo : own ≡ parts_at b i s) where
-    pub in_move : None ≡ refusing b.count t fits → i ≡ t - 1 → MayMove b t i own
-    in_move q ei = let mine = in_own q in record { mine = mine.0; fit = mine.1; index = ei; own = rw (← es) eo }
-
-    module _ (may : MayMove b t i own) (m : Move) (by : MovesBy b t own m) where
-      pub in_mark : MayMark m own b.reads b.count i
-      in_mark = may_mark b t may.mine may.fit long i s may.index es own eo m by
-
-      pub in_stored : (ls : List Reads) → ls ≡ marked_by m.marks (set b.reads i m.own.list) b.count (shows_of own) (shows_of m.own) t
-          → TurnsIn b fits t (record { block = stored_at b i s m ls; word = m.word })
-      in_stored ls el =
-          let turns = stored_turn b t may.mine may.fit long i s may.index es own eo m by ls el in
-          record {
-            turns = turns;
-            long = stored_long b t may.mine may.fit long i s may.index es own eo m by ls el;
-            fitting = ef ∙ may.fit ∙ sym (ap (E.block_fits limits box) turns.block ∙ turn_fits limits box box_promise (block_of b) t may.fit);
-          }
+  pub in_taken : None ≡ refusing b.count t fits → (r : Turned) → TurnsIn b true t r → TurnsIn b fits t r
+  in_taken q r u = rw ((not_refused fits b.count t (sym q)).1) u

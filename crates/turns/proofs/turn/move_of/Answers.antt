@@ -15,10 +15,10 @@ cell_read-requires c = steps_cells _ _ _ c.step-step.ensures
 pub invariant_of-taking : goal.invariant_of-taking
 invariant_of-taking c =
     let may = c.requires.1 in
-    record { ready = ready _ _ may.mine may.fit (search (c.well_formed, rules)) _ _ may.index refl _ may.own _ c.slot_of.ensures.0 _ c.of.ensures }
+    record { ready = ready _ _ may.mine may.fit (search (c.well_formed, rules)) _ _ may.index refl _ may.own _ c.slot_of.ensures.0 _ refl }
 
 pub returns : goal.returns
 returns c =
     let may = c.requires.1 in
-    moved _ _ may.mine may.fit (search (c.well_formed, rules)) _ _ may.index refl _ may.own _ c.slot_of.ensures.0 _ c.of.ensures
+    moved _ _ may.mine may.fit (search (c.well_formed, rules)) _ _ may.index refl _ may.own _ c.slot_of.ensures.0 _ refl
     _ (rw may.own at c.step-step.ensures) _ c.cell_read.ensures _ c.take.ensures

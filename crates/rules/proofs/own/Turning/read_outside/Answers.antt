@@ -8,4 +8,4 @@ pub returns-then-own-ge-FEW : goal.returns-then-own-ge-FEW
 returns-then-own-ge-FEW c = search (own_outside_laws, rules)
 
 pub returns : goal.returns
-returns c = search (own_outside_laws, rules)
+returns c = let e = rw c.of.ensures at c.find_version-found.ensures in search (own_outside_laws, rules)

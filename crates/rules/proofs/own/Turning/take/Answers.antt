@@ -16,5 +16,5 @@ returns-then-own-eq-RUNNING c = search (own_turn_laws, rules)
 pub returns-then-all_final : goal.returns-then-all_final
 returns-then-all_final c = let e = rw c.from.ensures at c.all_final.ensures in search (own_turn_laws, rules)
 
-pub returns-else-all_final : goal.returns-else-all_final
-returns-else-all_final c = let e = rw c.from.ensures at c.all_final.ensures in search (own_turn_laws, rules)
+pub returns : goal.returns
+returns c = let e = rw c.from.ensures at c.all_final.ensures in search (own_turn_laws, rules)
