@@ -164,7 +164,7 @@ pub fn change_of(b: &Block, t: Ticket) -> Change
 
 // A turn that neither 14 nor 20 refuses, in the block where it stands.
 fn take_own_turn(b: &mut Block, t: Ticket) -> Word
-    requires { (foreign b.old.count t.0 ≡ false) × (block_fits limits box (block_of b.old) ≡ true) × Long b.old }
+    requires { (foreign b.old.count t.0 ≡ false) × (block_fits limits box (block_of b.old) ≡ true) }
     ensures { TurnsIn b.old true t.0 (record { block = b.new; word = result }) }
 {
     let i = index_of(t);

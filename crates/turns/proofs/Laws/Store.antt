@@ -84,6 +84,9 @@ module _ (b : Block) (t : ℕ) (mine : foreign b.count t ≡ false) (fit : E.blo
     own_is : own ≡ own_of b (t - 1)
     own_is = rw (eo, es, ei) refl
 
+    pub may_move : MayMove b t i own
+    may_move = record { mine = mine; fit = fit; index = ei; own = rw (← es) eo }
+
     module _ (k : ℕ) (ek : k ≡ slot_at i (get_or b.reads i no_reads).mark) (around : Around) (ea : around ≡ around_of b) where
       pub ready : Ready own around t
       ready = rw (own_is, ea) (record {
@@ -160,6 +163,14 @@ module _ (b : Block) (t : ℕ) (mine : foreign b.count t ≡ false) (fit : E.blo
           checkpoints = length-set b.checkpoints s m.own.slot ∙ long.checkpoints;
         }
 
+        -- the turn in the block where it stands, which goes on fitting
+        pub stored_in : TurnsIn b true t (record { block = stored_at b i s m ls; word = m.word })
+        stored_in = record {
+          turns = stored_turn;
+          long = stored_long;
+          fitting = sym (ap (E.block_fits limits box) stored_turn.block ∙ turn_fits limits box box_promise (block_of b) t fit);
+        }
+
 -- ---- a turn that may be refused
 -- the parts of a refused turn are stored as they were
 stored_refused : (b : Block) (t i s : ℕ) (fits : Bool) → fits ≡ E.block_fits limits box (block_of b) → (w : Word) → refusing b.count t fits ≡ Some w
@@ -183,7 +194,7 @@ module _ (b : Block) (t : ℕ) (fits : Bool) (ef : fits ≡ E.block_fits limits 
 
   module _ (long : Long b) (i s : ℕ) (ei : i ≡ index_if refused t) (es : s ≡ slot_at i (get_or b.reads i no_reads).size) (own : Own) (eo : own ≡ parts_at b i s) where
     pub may_move_if : refused ≡ None → MayMove b t i own
-    may_move_if q = record { mine = mine_if q; fit = fit_if q; index = index_own i ei q; own = rw (← es) eo }
+    may_move_if q = may_move b t (mine_if q) (fit_if q) long i s (index_own i ei q) es own eo
 
     module _ (m : Move) (moves : MovesIf refused b t own m) where
       pub may_mark_if : MayMark m own b.reads b.count i
@@ -206,27 +217,7 @@ module _ (b : Block) (t : ℕ) (fits : Bool) (ef : fits ≡ E.block_fits limits 
       pub changes_if : i < 16 → s < 128 → (r : Change) → r ≡ change_by i s m (marked_by m.marks (set b.reads i m.own.list) b.count (shows_of own) (shows_of m.own) t) → Changes b t r
       changes_if li ls r e = rw e (record { index = rw (← ef, ← er) ei; slot = rw (← ef, ← er, ← ei) es; inside = li; within = ls; turns = turned_if _ refl })
 
--- ---- a turn in the block where it stands
-module _ (b : Block) (t : ℕ) (mine : foreign b.count t ≡ false) (fit : E.block_fits limits box (block_of b) ≡ true) (long : Long b) (i s : ℕ)
-    (es : s ≡ slot_at i (get_or b.reads i no_reads).size) (own : Own) (eo : own ≡ parts_at b i s) where
-  pub in_move : i ≡ t - 1 → MayMove b t i own
-  in_move ei = record { mine = mine; fit = fit; index = ei; own = rw (← es) eo }
-
-  module _ (ei : i ≡ t - 1) (m : Move) (by : MovesBy b t own m) where
-    pub in_mark : MayMark m own b.reads b.count i
-    in_mark = may_mark b t mine fit long i s ei es own eo m by
-
-    pub in_stored : (ls : List Reads) → ls ≡ marked_by m.marks (set b.reads i m.own.list) b.count (shows_of own) (shows_of m.own) t
-        → TurnsIn b true t (record { block = stored_at b i s m ls; word = m.word })
-    in_stored ls el =
-        let turns = stored_turn b t mine fit long i s ei es own eo m by ls el in
-        record {
-          turns = turns;
-          long = stored_long b t mine fit long i s ei es own eo m by ls el;
-          fitting = sym (ap (E.block_fits limits box) turns.block ∙ turn_fits limits box box_promise (block_of b) t fit);
-        }
-
--- .. which may be refused
+-- ---- a turn in the block where it stands, which may be refused
 module _ (b : Block) (fits : Bool) (t : ℕ) (ef : fits ≡ E.block_fits limits box (block_of b)) (long : Long b) where
   pub in_refused : (w : Word) → Some w ≡ refusing b.count t fits → TurnsIn b fits t (record { block = b; word = w })
   in_refused w q = record { turns = turn_refused b t fits ef w (sym q); long = long; fitting = ef }

@@ -8,7 +8,7 @@ pub returns-in-Some : goal.returns-in-Some
 returns-in-Some c = in_refused _ _ _ c.requires.0 c.requires.1 _ (sym c.in-Some.is ∙ c.refusal.ensures)
 
 pub take_own_turn-requires : goal.take_own_turn-requires
-take_own_turn-requires c = let own = in_own _ _ _ c.requires.0 c.requires.1 (sym c.in-None.is ∙ c.refusal.ensures) in (own.0, own.1, c.requires.1)
+take_own_turn-requires c = in_own _ _ _ c.requires.0 c.requires.1 (sym c.in-None.is ∙ c.refusal.ensures)
 
 pub returns-in-None : goal.returns-in-None
 returns-in-None c = in_taken _ _ _ c.requires.0 c.requires.1 (sym c.in-None.is ∙ c.refusal.ensures) _ c.take_own_turn.ensures
